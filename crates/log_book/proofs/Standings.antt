@@ -1,6 +1,6 @@
 -- What a book stands for once more is written.
 use Rattle.io_edge.specs.declared.edge.Sink.{Ghosts}
-use Rattle.std.proofs.Common.{◌≡◌, ℕ, suc, ◌+◌, ◌≤◌, ◌||◌, Bool, true, false, List, [], ◌∷◌, ◌++◌, All, length, refl, sym, ap, ◌∙◌, subst, arith, length-append, append_assoc, append-nil, true≢false, Some, None}
+use Rattle.std.proofs.Common.{◌≡◌, ◌⊎◌, inl, inr, ℕ, suc, ◌+◌, ◌<◌, ◌≤◌, ◌||◌, Bool, true, false, List, [], ◌∷◌, ◌++◌, All, length, refl, sym, ap, ◌∙◌, subst, arith, length-append, append_assoc, true≢false, Some, None}
 use Rattle.std.specs.List.{list_any}
 use Rattle.std.specs.Prelude.{IfSome, is_some}
 use Rattle.std.specs.declared.option.Option.{Option as Maybe}
@@ -9,6 +9,9 @@ use Rattle.sat_words.specs.Literal.{Literal, IsOn}
 use Rattle.sat_words.specs.Clause.{is_empty}
 use Rattle.sat_words.specs.declared.line.Line.{Line}
 use Rattle.sat_words.specs.declared.shared.TheConstants.{MAX_ENTRIES}
+use Rattle.clause_cell.specs.Packing.{words_for}
+use Rattle.clause_cell.specs.Free.{largest}
+use Rattle.rup_model.specs.declared.journal.Kind.{Kind}
 use Rattle.rup_model.specs.declared.journal.Entry.{Entry}
 use Rattle.rup_model.specs.Log.{Accepted, lits_of}
 use Rattle.rup_model.specs.Journal.{Book as Numbers, book, book_after, lines, lines_after, added, ended}
@@ -21,6 +24,7 @@ use Rattle.drat_text.proofs.JournalLines.{has_text_next, has_text_cut}
 use Rattle.share_core.specs.declared.part.CoreOpening.{CoreOpening}
 use Rattle.share_core.proofs.Leaving.{left_sound}
 use Rattle.share_core.proofs.Counting.{some_same, none_some}
+use Rattle.share_rule.specs.declared.Layout.{Layout}
 use Rattle.share_rule.specs.declared.note.Note.{Note}
 use Rattle.share_rule.specs.declared.view.View.{View}
 use Rattle.share_rule.specs.declared.view.Refusal.{Refusal}
@@ -29,8 +33,11 @@ use Rattle.share_rule.specs.Books.{StandsFor}
 use Rattle.share_rule.specs.Views.{only}
 use Rattle.share_rule.specs.Seen.{Seen, IsRefused}
 use Rattle.share_rule.specs.Room.{Room, room, room_after}
+use Rattle.share_rule.specs.Tight.{IsTight}
 use Rattle.share_rule.specs.Turns.{Sheet, noted, sheet_after, AllNoted, entry_of, MayWrite, written_of, sheet_of}
 use Rattle.share_rule.proofs.Rooms.{room_more}
+use Rattle.share_rule.proofs.Tightness.{tight_more}
+use Rattle.share_rule.proofs.Refusing.{turn_tight}
 use Rattle.share_rule.proofs.Moves.{refused_more}
 use Rattle.share_rule.proofs.Sheets.{begins_long, Noted}
 use Rattle.share_rule.proofs.Written.{written_core, noted_more, few_written, few_taken}
@@ -39,7 +46,7 @@ use Rattle.log_book.specs.declared.turn.Turn.{Turn}
 use Rattle.log_book.specs.declared.stop.TurnStop.{TurnStop}
 use Rattle.log_book.specs.declared.stop.TurnStop.TheVariants as stop
 use Rattle.log_book.specs.Books.{AreAlike, ends, begun, began, account_of, IsLogOf, HasPut, HasFailed}
-use Rattle.log_book.specs.Turns.{sheet, noted_as, MayNext, CouldWrite, IsGrounded, IsTurn}
+use Rattle.log_book.specs.Turns.{sheet, noted_as, MayNext, MayAdd, CouldWrite, IsGrounded, IsTurn, Stopped}
 
 pub ended_last : (F : List (List Literal)) (J : List Entry) (e : Entry) → ended F (J ++ e ∷ []) ≡ (ended F J || list_any is_empty (added (e ∷ [])))
 ended_last F J e = ap (λ (G : List (List Literal)). list_any is_empty (F ++ G)) (added-append J (e ∷ [])) ∙ ap (list_any is_empty) (sym (append_assoc F (added J) (added (e ∷ [])))) ∙ list_any-append is_empty (F ++ added J) (added (e ∷ []))
@@ -54,11 +61,11 @@ some_with None x = refl
 some_with (Some ls) x = refl
 
 -- a refusal stands behind more notes
-refused_next : (o : CoreOpening) (J : List Entry) (e : Entry) (failed : Bool) (x : Refusal) → IsRefused o J failed x → IsRefused o (J ++ e ∷ []) failed x
-refused_next o J e failed Ended q = ended_last o.formula J e ∙ (λ i. q i || list_any is_empty (added (e ∷ [])))
-refused_next o J e failed Broken q = q
-refused_next o J e failed ProofFault q = q
-refused_next o J e failed (NoHole need most) q = q
+refused_next : (l : Layout) (o : CoreOpening) (J : List Entry) (e : Entry) (failed : Bool) (x : Refusal) → IsRefused l o J failed x → IsRefused l o (J ++ e ∷ []) failed x
+refused_next l o J e failed Ended q = ended_last o.formula J e ∙ (λ i. q i || list_any is_empty (added (e ∷ [])))
+refused_next l o J e failed Broken q = q
+refused_next l o J e failed ProofFault q = q
+refused_next l o J e failed (NoHole need most) q = tight_more l o J (e ∷ []) need most q
 
 module _ {S : Type 0} {d : Ghosts S} (written flushed target : S → Maybe (List ℕ)) (faults : S → ℕ) where
   module _ (v : View) (t : Turn S d) (s : Seen v) (h : IsTurn written flushed target faults v t) where
@@ -121,7 +128,7 @@ module _ {S : Type 0} {d : Ghosts S} (written flushed target : S → Maybe (List
           record {
             writing = h.writing;
             may = subst (λ (ns : List Note). MayWrite v ns) (sym noted_is) more.0;
-            refused = subst (λ (y : Maybe Refusal × (List Entry × Bool)). IfSome y.0 (λ z. IsRefused o y.1.0 y.1.1 z) × ((only v).failed ≡ true → y.1.1 ≡ true)) (λ i. (sym refused_is i, (sym J' i, (could.1 ∙ sym whole) i)))
+            refused = subst (λ (y : Maybe Refusal × (List Entry × Bool)). IfSome y.0 (λ z. IsRefused v.layout o y.1.0 y.1.1 z) × ((only v).failed ≡ true → y.1.1 ≡ true)) (λ i. (sym refused_is i, (sym J' i, (could.1 ∙ sym whole) i)))
                 (next_refused t.refused h.refused.0, h.refused.1);
             stands = subst (λ (y : List Entry × Bool). StandsFor account_of (IsLogOf written flushed target faults) t'.book v.origin v.layout o y.0 y.1) (λ i. (sym J' i, sym whole i)) (record {
               log = record {
@@ -137,9 +144,9 @@ module _ {S : Type 0} {d : Ghosts S} (written flushed target : S → Maybe (List
             });
           }
         where
-          next_refused : (x : Maybe Refusal) → IfSome x (λ z. IsRefused v.opening J t.book.log.lines.spent z) → IfSome x (λ z. IsRefused v.opening (J ++ e ∷ []) t.book.log.lines.spent z)
+          next_refused : (x : Maybe Refusal) → IfSome x (λ z. IsRefused v.layout v.opening J t.book.log.lines.spent z) → IfSome x (λ z. IsRefused v.layout v.opening (J ++ e ∷ []) t.book.log.lines.spent z)
           next_refused None q = q
-          next_refused (Some z) q = refused_next v.opening J e t.book.log.lines.spent z q
+          next_refused (Some z) q = refused_next v.layout v.opening J e t.book.log.lines.spent z q
 
       -- the line stands
       pub line_turn : (t' : Turn S d) (x : Line) (number : ℕ) → lines_after (book v.opening.formula J) e ≡ x ∷ [] → t'.noted.items ≡ t.noted.items ++ n ∷ [] → t'.refused ≡ t.refused
@@ -164,9 +171,9 @@ module _ {S : Type 0} {d : Ghosts S} (written flushed target : S → Maybe (List
             whole,
           )
 
-      more_refused : (x : Maybe Refusal) (now : Bool) → (t.book.log.lines.spent ≡ true → now ≡ true) → IfSome x (λ z. IsRefused v.opening J t.book.log.lines.spent z) → IfSome x (λ z. IsRefused v.opening J now z)
+      more_refused : (x : Maybe Refusal) (now : Bool) → (t.book.log.lines.spent ≡ true → now ≡ true) → IfSome x (λ z. IsRefused v.layout v.opening J t.book.log.lines.spent z) → IfSome x (λ z. IsRefused v.layout v.opening J now z)
       more_refused None now more q = q
-      more_refused (Some z) now more q = refused_more v.opening J t.book.log.lines.spent now more z q
+      more_refused (Some z) now more q = refused_more v.layout v.opening J t.book.log.lines.spent now more z q
 
       -- the sink failed at the line
       pub failed_turn : (t' : Turn S d) (x : Line) → lines_after (book v.opening.formula J) e ≡ x ∷ [] → All (IsOn v.layout.vars) (lits_of x) → t'.noted.items ≡ t.noted.items → t'.refused ≡ t.refused
@@ -184,7 +191,7 @@ module _ {S : Type 0} {d : Ghosts S} (written flushed target : S → Maybe (List
             record {
               writing = h.writing;
               may = subst (λ (ns : List Note). MayWrite v ns) (sym noted_is) h.may;
-              refused = subst (λ (y : Maybe Refusal × List Entry). IfSome y.0 (λ z. IsRefused o y.1 t'.book.log.lines.spent z) × ((only v).failed ≡ true → t'.book.log.lines.spent ≡ true)) (λ i. (sym refused_is i, sym J' i))
+              refused = subst (λ (y : Maybe Refusal × List Entry). IfSome y.0 (λ z. IsRefused v.layout o y.1 t'.book.log.lines.spent z) × ((only v).failed ≡ true → t'.book.log.lines.spent ≡ true)) (λ i. (sym refused_is i, sym J' i))
                   (more_refused t.refused t'.book.log.lines.spent (λ _. spent) h.refused.0, λ _. spent);
               stands = subst (λ (K : List Entry). StandsFor account_of (IsLogOf written flushed target faults) t'.book v.origin v.layout o K t'.book.log.lines.spent) (sym J') (record {
                 log = record {
@@ -217,7 +224,7 @@ module _ {S : Type 0} {d : Ghosts S} (written flushed target : S → Maybe (List
         record {
           writing = h.writing;
           may = subst (λ (ns : List Note). MayWrite v ns) (sym noted_is) h.may;
-          refused = subst (λ (y : Maybe Refusal × (List Entry × Bool)). IfSome y.0 (λ z. IsRefused o y.1.0 y.1.1 z) × ((only v).failed ≡ true → y.1.1 ≡ true)) (λ i. (sym refused_is i, (sym J' i, sym spent i))) h.refused;
+          refused = subst (λ (y : Maybe Refusal × (List Entry × Bool)). IfSome y.0 (λ z. IsRefused v.layout o y.1.0 y.1.1 z) × ((only v).failed ≡ true → y.1.1 ≡ true)) (λ i. (sym refused_is i, (sym J' i, sym spent i))) h.refused;
           stands = subst (λ (y : List Entry × Bool). StandsFor account_of (IsLogOf written flushed target faults) t'.book v.origin v.layout o y.0 y.1) (λ i. (sym J' i, sym spent i)) (record {
             log = record {
               entries = alike.entries ∙ log.entries;
@@ -237,6 +244,32 @@ module _ {S : Type 0} {d : Ghosts S} (written flushed target : S → Maybe (List
           });
         }
 
+    -- a clause that may be added and finds no hole
+    add_tight : (kind : Kind) (lits : List Literal) (need most : ℕ) → MayAdd v t kind lits → need ≡ words_for (length lits) → most ≡ largest (room v.layout v.opening J).holes → most < need → IsTight v.layout v.opening J need most
+    add_tight kind lits need most may need_is most_is short = turn_tight v t.noted.items kind lits need most s h.writing h.may may.0 may.1 may.2 may.3 need_is most_is short
+
+    module _ (t' : Turn S d) (noted_is : t'.noted.items ≡ t.noted.items) (refused_is : t'.refused ≡ t.refused) (alike : AreAlike t.book t'.book) where
+      -- memory ran out
+      pub stopped_memory : Stopped written flushed target faults v t t' stop.Memory
+      stopped_memory = record { noted = noted_is; refused = refused_is; turn = alike_turn t' noted_is refused_is alike; grounded = tt; alike = λ _. alike }
+
+      module _ (whole : t.book.log.lines.spent ≡ false) (kind : Kind) (lits : List Literal) (need : ℕ) (may : MayAdd v t kind lits) (need_is : need ≡ words_for (length lits)) where
+        -- no hole is long enough
+        pub stopped_room : (most : ℕ) → most ≡ largest t'.book.holes → most < need → Stopped written flushed target faults v t t' (stop.NoHole need most)
+        stopped_room most most_is short = record {
+          noted = noted_is;
+          refused = refused_is;
+          turn = alike_turn t' noted_is refused_is alike;
+          grounded = subst (λ (K : List Entry). IsTight v.layout v.opening K need most) (sym (ap (λ (ns : List Note). (written_of v ns).journal) noted_is))
+              (add_tight kind lits need most may need_is (most_is ∙ ap largest (alike.holes ∙ h.stands.holes whole)) short);
+          alike = λ _. alike;
+        }
+
+        -- one of the two
+        pub stopped_either : (e : TurnStop) → ((need ≤ largest t'.book.holes) × (e ≡ stop.Memory)) ⊎ ((largest t'.book.holes < need) × (e ≡ stop.NoHole need (largest t'.book.holes))) → Stopped written flushed target faults v t t' e
+        stopped_either e (inl x) = subst (Stopped written flushed target faults v t t') (sym x.1) stopped_memory
+        stopped_either e (inr x) = subst (Stopped written flushed target faults v t t') (sym x.1) (stopped_room (largest t'.book.holes) refl x.0)
+
     -- a refusal is noted
     pub refused_turn : (t' : Turn S d) (e : TurnStop) → IsGrounded v t e → t'.book ≡ t.book → t'.noted ≡ t.noted → t'.refused ≡ noted_as e t.refused → IsTurn written flushed target faults v t'
     refused_turn t' e grounded book_is noted_is refused_is = subst (IsTurn written flushed target faults v) (λ i. record { book = sym book_is i; noted = sym noted_is i; refused = sym refused_is i }) (record {
@@ -246,7 +279,7 @@ module _ {S : Type 0} {d : Ghosts S} (written flushed target : S → Maybe (List
       stands = h.stands;
     })
       where
-        cause : (f : TurnStop) → IsGrounded v t f → IfSome (noted_as f t.refused) (λ z. IsRefused v.opening J t.book.log.lines.spent z)
+        cause : (f : TurnStop) → IsGrounded v t f → IfSome (noted_as f t.refused) (λ z. IsRefused v.layout v.opening J t.book.log.lines.spent z)
         cause stop.Ended q = q
         cause stop.Broken q = q
         cause (stop.NoHole need most) q = q

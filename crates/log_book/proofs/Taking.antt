@@ -55,6 +55,6 @@ module _ {S : Type 0} {d : Ghosts S} (written flushed target : S → Option (Lis
           record {
             writing = (parts ∙ (λ i. sym is i ∷ []), (record { journal = b.journal }, ap (λ (p : RingPart). p.turn) is));
             may = subst (λ (ns : List Note). MayWrite u ns) (sym noted) tt;
-            refused = (subst (λ x. Rattle.std.specs.Prelude.IfSome x (λ z. Rattle.share_rule.specs.Seen.IsRefused u.opening (written_of u t.noted.items).journal t.book.log.lines.spent z)) (sym refused) tt, λ e. sym (ap (λ (p : RingPart). p.failed) is) ∙ e);
+            refused = (subst (λ x. Rattle.std.specs.Prelude.IfSome x (λ z. Rattle.share_rule.specs.Seen.IsRefused u.layout u.opening (written_of u t.noted.items).journal t.book.log.lines.spent z)) (sym refused) tt, λ e. sym (ap (λ (p : RingPart). p.failed) is) ∙ e);
             stands = subst (λ (K : List Entry). StandsFor account_of (IsLogOf written flushed target faults) t.book v.origin v.layout v.opening K t.book.log.lines.spent) (sym journal) b.stands;
           }

@@ -48,7 +48,7 @@ pub record Waits {S : Type 0} {d : Ghosts S} (v : View) (t : Turn S d) (a : ℕ)
 pub waits_so : {S : Type 0} {d : Ghosts S} (written flushed target : S → Rattle.std.specs.declared.option.Option.Option (List ℕ)) (faults : S → ℕ) (v : View) (t : Turn S d) (a : ℕ) (s : Seen v) → IsTurn written flushed target faults v t → 0 < times_at a (sheet v t).part.waiting → Waits v t a
 waits_so written flushed target faults v t a s h has =
     let r : ℕ = (only v).core.ring in
-    let part : IsPart s.core s.glue (only v) = s.parts 0 (only v) (ap (λ ps. get_elem? ps 0) h.writing.0) in
+    let part : IsPart v.layout s.core s.glue (only v) = s.parts 0 (only v) (ap (λ ps. get_elem? ps 0) h.writing.0) in
     let n : Noted v.layout r s.core s.glue t.noted.items (sheet v t) = state_behind written flushed target faults v t s h in
     let c : State = n.core in
     let sound : Sound c = left_sound c.opening c n.left in

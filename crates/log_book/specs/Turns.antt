@@ -22,6 +22,7 @@ use Rattle.share_rule.specs.declared.view.View.{View}
 use Rattle.share_rule.specs.Layout.{InVars}
 use Rattle.share_rule.specs.Room.{room}
 use Rattle.share_rule.specs.Books.{StandsFor}
+use Rattle.share_rule.specs.Tight.{IsTight}
 use Rattle.share_rule.specs.Views.{only, clause_in}
 use Rattle.share_rule.specs.Turns.{Sheet, IsWriting, MayWrite, WasRefused, written_of, MayNote, IsGoing, after_take}
 use Rattle.log_book.specs.Books.{AreAlike, account_of, IsLogOf}
@@ -81,7 +82,7 @@ IsAddCause faults v old new size ProofFault = IsCause faults v old new ProofFaul
 abbrev pub IsGrounded : {S : Type 0} {d : Ghosts S} → View → Turn S d → TurnStop → Type 0
 IsGrounded v t Ended = ended v.opening.formula (sheet v t).journal ≡ true
 IsGrounded v t Broken = t.book.log.lines.spent ≡ true
-IsGrounded v t (NoHole need most) = most < need
+IsGrounded v t (NoHole need most) = IsTight v.layout v.opening (sheet v t).journal need most
 IsGrounded v t Memory = ⊤
 IsGrounded v t ProofFault = t.book.log.lines.spent ≡ true
 

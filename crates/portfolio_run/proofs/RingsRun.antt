@@ -89,7 +89,7 @@ module _ (v w : View) (home : List ℕ) (plan : Plan) (s : Seen w) (r : ℕ) (en
   abbrev pub port : PortState
   port = port_with (record v { stop = h.seen; looks = h.ran.looks }) h.part h.ran.own
 
-  is_part : IsPart s.core s.glue h.part
+  is_part : IsPart w.layout s.core s.glue h.part
   is_part = s.parts r h.part h.there
 
   core_is : h.part.core ≡ s.core.part r

@@ -25,7 +25,7 @@ times_behind a (x ∷ hs) h e = let k = times_behind a hs h e in omega arith
 waits_alone : (v : View) (s : Seen v) (a : ℕ) → v.parts ≡ only v ∷ [] → 0 < times_at a (only v).core.waiting → (waiting_times s.core a ≡ 1) × (counted s.core.opening s.core a ≡ 0)
 waits_alone v s a one waits =
     let c : State = s.core in
-    let part : IsPart c s.glue (only v) = s.parts 0 (only v) (ap (λ (ps : List RingPart). get_elem? ps 0) one) in
+    let part : IsPart v.layout c s.glue (only v) = s.parts 0 (only v) (ap (λ (ps : List RingPart). get_elem? ps 0) one) in
     let r : ℕ = (only v).core.ring in
     let sound : Sound c = left_sound c.opening c s.left in
     let there : 0 < times_at a (c.part r).waiting = subst (λ (q : Part). 0 < times_at a q.waiting) part.part waits in

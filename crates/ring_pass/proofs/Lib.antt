@@ -20,6 +20,7 @@ mod OffersSeen
 mod OtherRings
 mod PollsHere
 mod RingPorts
+mod RoomHere
 mod Scans
 mod SeenHere
 mod Stays

@@ -129,7 +129,7 @@ pub told_here : (v w : View) (J : List Entry) (failed : Bool) (lit : Literal) �
 told_here v w J failed lit h s wrote =
     let p : RingPart = only v in
     let x : RingPart = take_part J failed p in
-    let k : IsPart s.core s.glue x = subst (IsPart s.core s.glue) (only_is w x h.parts) (part_of w s (one_is w x h.parts)) in
+    let k : IsPart w.layout s.core s.glue x = subst (IsPart w.layout s.core s.glue) (only_is w x h.parts) (part_of w s (one_is w x h.parts)) in
     let same_journal : J ≡ s.core.journal = turn_is s.core p.core.ring (record { journal = J }) (sym k.turn) in
     let sound = left_sound s.core.opening s.core s.left in
     let r : ℕ = p.core.ring in
@@ -164,7 +164,7 @@ turn_still {S} {d} {written} {flushed} {target} {faults} {w} {t} u p h none quie
     record {
       writing = (one_is u p parts, (h.writing.1.0, turns ∙ h.writing.1.1));
       may = subst (λ (ns : List Note). MayWrite u ns) (sym none) tt;
-      refused = (subst (λ (x : Option Refusal). IfSome x (λ y. IsRefused u.opening (written_of u t.noted.items).journal t.book.log.lines.spent y)) (sym quiet) tt, λ e. h.refused.1 (sym (ap (λ (q : RingPart). q.failed) now ∙ failed) ∙ e));
+      refused = (subst (λ (x : Option Refusal). IfSome x (λ y. IsRefused u.layout u.opening (written_of u t.noted.items).journal t.book.log.lines.spent y)) (sym quiet) tt, λ e. h.refused.1 (sym (ap (λ (q : RingPart). q.failed) now ∙ failed) ∙ e));
       stands = subst (λ (y : BookOrigin × Layout × CoreOpening × List Entry). Stands written flushed target faults t.book y.0 y.1 y.2 y.3 t.book.log.lines.spent) (λ i. (sym origin i, sym layout i, sym opening i, sym journal i)) h.stands;
     }
 

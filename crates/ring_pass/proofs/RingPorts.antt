@@ -110,7 +110,7 @@ module _ (v : View) (s : Seen v) (one : v.parts ≡ only v ∷ []) where
   sound_of : Sound s.core
   sound_of = left_sound s.core.opening s.core s.left
 
-  pub part_of : IsPart s.core s.glue (only v)
+  pub part_of : IsPart v.layout s.core s.glue (only v)
   part_of = s.parts 0 (only v) (ap (λ (ps : List RingPart). get_elem? ps 0) one)
 
   on_of : (lits : List Literal) → InVars v.layout lits → All (IsOn v.layout.vars) lits

@@ -102,7 +102,7 @@ pub journal_known : (v w : View) (J : List Entry) (failed : Bool) → HasTurn v 
 journal_known v w J failed h s =
     let p : RingPart = only v in
     let x : RingPart = take_part J failed p in
-    let k : IsPart s.core s.glue x = subst (IsPart s.core s.glue) (only_is w x h.parts) (part_of w s (one_is w x h.parts)) in
+    let k : IsPart w.layout s.core s.glue x = subst (IsPart w.layout s.core s.glue) (only_is w x h.parts) (part_of w s (one_is w x h.parts)) in
     let same : J ≡ s.core.journal = turn_is s.core p.core.ring (record { journal = J }) (sym k.turn) in
     let opening : v.opening ≡ s.core.opening = sym h.opening ∙ s.opening in
     record {

@@ -1,9 +1,13 @@
-ghost use Rattle.std.specs.Prelude.{◌≡◌, [], ◌∷◌, true, false, None, IfOk, IfErr, map, ℕ};
+ghost use Rattle.std.specs.Prelude.{◌≡◌, [], ◌∷◌, true, false, Some, None, IfOk, IfErr, map, ℕ};
+ghost use Rattle.sat_words.specs.declared.shared.NoRoom.{NoRoom};
+ghost use Rattle.ring_port.specs.declared.stops.PortStop.TheVariants.{NoHole};
 ghost use Rattle.ring_port.specs.Port.{is_usable};
 ghost use Rattle.ring_port.specs.PortState.{Holding, IsPort, HoldsStart};
 ghost use Rattle.share_rule.specs.FirstWords.{addresses};
 ghost use Rattle.share_rule.specs.Passes.{IsPassOf};
+ghost use Rattle.share_rule.specs.Seen.{Seen};
 ghost use Rattle.share_rule.specs.Steps.{new_part};
+ghost use Rattle.share_rule.specs.Tight.{IsTight};
 ghost use Rattle.share_rule.specs.Views.{only};
 ghost use Rattle.ring_pass.specs.Refusals.{last_refusal};
 ghost use Rattle.ring_pass.specs.RingState.{Own, port_of, home_of, begun_as};
@@ -139,7 +143,7 @@ impl<'a, S: Sink, G: Gate, H> RingPass<'a, S, G, H> {
     ///
     /// The answer that refused last is what the log's turns refused this ring last: a turn notes its refusals in the pass as it
     /// is given back. So except for want of memory the last refusal is one that a turn made, though a body may repeat it, or ask
-    /// a broken log again after its own write failed. A lone ring was told of a failed write exactly if the port was refused for
+    /// a broken log again after its own write failed. If it was for want of room, the table had none. A lone ring was told of a failed write exactly if the port was refused for
     /// a fault.
     pub fn into_pass(self, table: &Shared<Book<S>>, _other: &Pass<Book<S>>) -> Pass<Book<S>>
         requires other { IsPassOf table.now _other.now }
@@ -149,6 +153,7 @@ impl<'a, S: Sink, G: Gate, H> RingPass<'a, S, G, H> {
         ensures state { (o : Own) × (port_of result.me.0 o ≡ self.entry) }
         ensures ended { self.entry.ended ≡ true → (only result.me.0).ended ≡ true }
         ensures refused { self.entry.refused ≡ last_refusal (only result.me.0) }
+        ensures room { (s : Seen result.me.0) (lack : NoRoom) → self.entry.refused ≡ Some (NoHole lack) → IsTight result.me.0.layout s.core.opening s.core.journal lack.need lack.largest }
         ensures faulty { is_usable self.entry.refused ≡ false → (only result.me.0).failed ≡ true }
         ensures alone { result.me.0.opening.rings ≡ 1 → (only result.me.0).failed ≡ true → is_usable self.entry.refused ≡ false }
     {

@@ -49,7 +49,7 @@ module _ {S : Type 0} (stands : S → BookOrigin → Layout → CoreOpening → 
       let p : RingPart = only v in
       let r : ℕ = ring_of p in
       let mine = one_ring l c h.glue h.owner id v (h.each id v at) building.0 in
-      let part : IsPart c h.glue p = mine.0 in
+      let part : IsPart l c h.glue p = mine.0 in
       let making : 0 < times_at a (c.part r).making = subst (λ (q : Part). 0 < times_at a q.making) part.part building.1 in
       let sound : Sound c = left_sound c.opening c h.left in
       let is = building_is c sound r a part.ring making in
@@ -85,7 +85,7 @@ module _ {S : Type 0} (stands : S → BookOrigin → Layout → CoreOpening → 
       let p : RingPart = only v in
       let r : ℕ = ring_of p in
       let mine = one_ring l c h.glue h.owner id v (h.each id v at) building.0 in
-      let part : IsPart c h.glue p = mine.0 in
+      let part : IsPart l c h.glue p = mine.0 in
       let making : 0 < times_at a (c.part r).making = subst (λ (q : Part). 0 < times_at a q.making) part.part building.1 in
       let sound : Sound c = left_sound c.opening c h.left in
       let is = building_is c sound r a part.ring making in

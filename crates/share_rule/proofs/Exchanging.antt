@@ -88,7 +88,7 @@ exchange_frame c r s a p glue empty =
       turn = λ i ne. turn_same c d i refl refl;
       units = omega arith;
       kept_turn = λ i ne e. (e, refl);
-      refused = refused_same c d refl refl;
+      refused = λ y. refused_same y c d refl refl;
       own = λ i ne. refl;
       stop_stays = λ t e. e;
       stop_new = λ t e. inl e;
@@ -113,7 +113,7 @@ module _ {S : Type 0} (stands : S → BookOrigin → Layout → CoreOpening → 
       let r : ℕ = ring_of p in
       let f : Fits l c h.glue h.owner id v = h.each id v at in
       let mine = one_ring l c h.glue h.owner id v f holding.0 in
-      let part : IsPart c h.glue p = mine.0 in
+      let part : IsPart l c h.glue p = mine.0 in
       let held : 0 < times_at a (c.part r).held = subst (λ (q : Part). 0 < times_at a q.held) part.part holding.1 in
       let sound : Sound c = left_sound c.opening c h.left in
       let clause : clause_in a p.core.held ≡ clause_at c a = ap (λ (q : Part). clause_in a q.held) part.part ∙ held_clause c sound r a part.ring held in
@@ -194,7 +194,7 @@ module _ {S : Type 0} (stands : S → BookOrigin → Layout → CoreOpening → 
       let r : ℕ = ring_of p in
       let f : Fits l c h.glue h.owner id v = h.each id v at in
       let mine = one_ring l c h.glue h.owner id v f other.0 in
-      let part : IsPart c h.glue p = mine.0 in
+      let part : IsPart l c h.glue p = mine.0 in
       let shown = f.told ready in
       let lt : from < c.opening.rings = subst (λ (o : CoreOpening). from < o.rings) shown.1 other.1 in
       let below : place < c.opening.depth = subst (λ (o : CoreOpening). place < o.depth) shown.1 there in

@@ -92,7 +92,7 @@ module _ {S : Type 0} (stands : S → BookOrigin → Layout → CoreOpening → 
       let others : (i : ℕ) → i ≢ r → d.part i ≡ c.part i = put_else c.part r p in
       let new : granted_part v.opening (blank r) ≡ d.part r = (λ i. granted_part (t.1 i) (sym (h.fresh r closed) i)) ∙ sym (put_here c.part r p) in
       let sound : Sound c = left_sound c.opening c h.left in
-      let first : IsPart d h.glue (new_part v.opening r) = record {
+      let first : IsPart l d h.glue (new_part v.opening r) = record {
         ring = lt;
         part = new;
         glues = subst (λ (o : CoreOpening). All (λ (h' : ClauseAt). glue_in h'.number (start_glues o.starts) ≡ h.glue h'.number) o.starts) (sym t.1)
@@ -146,12 +146,12 @@ module _ {S : Type 0} (stands : S → BookOrigin → Layout → CoreOpening → 
       knows_part fault v none old zero y e = subst (KnowsFault fault) (some-injective (new_part v.opening r) y e) (record { told = λ q. absurd (true≢false (sym q)); taken = λ t q f. absurd (none t q) })
       knows_part fault v none old (suc i) y e = old i y e
 
-      each_part : (c d : State) (glue : ℕ → ℕ) (v : View) → Sound c → Frame r c d glue glue → ((i : ℕ) (p : RingPart) → get_elem? v.parts i ≡ some p → IsPart c glue p × (c.granted (ring_of p) ≡ true))
-          → IsPart d glue (new_part v.opening r) → c.granted r ≡ false
-          → (i : ℕ) (y : RingPart) → get_elem? (new_part v.opening r ∷ v.parts) i ≡ some y → IsPart d glue y
-      each_part c d glue v sound frame old first closed zero y e = subst (IsPart d glue) (some-injective (new_part v.opening r) y e) first
+      each_part : (c d : State) (glue : ℕ → ℕ) (v : View) → Sound c → Frame r c d glue glue → ((i : ℕ) (p : RingPart) → get_elem? v.parts i ≡ some p → IsPart k.layout c glue p × (c.granted (ring_of p) ≡ true))
+          → IsPart k.layout d glue (new_part v.opening r) → c.granted r ≡ false
+          → (i : ℕ) (y : RingPart) → get_elem? (new_part v.opening r ∷ v.parts) i ≡ some y → IsPart k.layout d glue y
+      each_part c d glue v sound frame old first closed zero y e = subst (IsPart k.layout d glue) (some-injective (new_part v.opening r) y e) first
       each_part c d glue v sound frame old first closed (suc i) y e = let o = old i y e in
-          part_else r c d glue glue y sound frame (λ q. true≢false (sym o.1 ∙ ap c.granted q ∙ closed)) o.0
+          part_else k.layout r c d glue glue y sound frame (λ q. true≢false (sym o.1 ∙ ap c.granted q ∙ closed)) o.0
 
   pub grants : (slots id : ℕ) (me : Me (Option S) View) (r : ℕ) → is_ready me.0.stage ≡ true → IsRight r me.0
       → Allows (Shown stands k) slots id me (grant_at r) (λ _. 0) (took_grant (step slots (grant_at r) 0 0 maybe.none) me)

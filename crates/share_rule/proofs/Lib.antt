@@ -1,5 +1,6 @@
 pub mod Lists
 pub mod Rooms
+pub mod Tightness
 pub mod Parts
 pub mod Telling
 pub mod Words
@@ -13,6 +14,7 @@ pub mod Sheets
 pub mod Noting
 pub mod Turning
 pub mod Written
+pub mod Refusing
 pub mod UnitWords
 pub mod Listing
 pub mod Seats

@@ -52,7 +52,7 @@ module _ {S : Type 0} (stands : S → BookOrigin → Layout → CoreOpening → 
       let n : ℕ = slice_index s.words 2 in
       let n_is : n ≡ length c.units = h.words.listed_is in
       let mine = one_ring l c h.glue h.owner id v (h.each id v at) one in
-      let part : IsPart c h.glue p = mine.0 in
+      let part : IsPart l c h.glue p = mine.0 in
       moved stands l s h c h.glue id v (after_count n v) (count_part n p) s.words s.homes at h.left h.places h.words (frame_of r c c h.glue (stays_still c) (λ _ _. refl) (λ _ _. refl)) (λ _. refl) h.home one refl (only_changed (count_part n) v one) refl refl refl refl refl
       (stops_same c.stop v (after_count n v) (count_part n p) one (only_changed (count_part n) v one) refl refl (h.each id v at).stops)
       (record {
@@ -85,7 +85,7 @@ module _ {S : Type 0} (stands : S → BookOrigin → Layout → CoreOpening → 
       let r : ℕ = ring_of p in
       let t = (h.each id v at).told ready in
       let mine = one_ring l c h.glue h.owner id v (h.each id v at) one in
-      let part : IsPart c h.glue p = mine.0 in
+      let part : IsPart l c h.glue p = mine.0 in
       let sound : Sound c = left_sound c.opening c h.left in
       let listed = part.listed in
       let lt : length p.core.seen < length c.units = omega arith in
@@ -130,7 +130,7 @@ module _ {S : Type 0} (stands : S → BookOrigin → Layout → CoreOpening → 
       let one = may.writing.0 in
       let t = (h.each id v at).told ready in
       let mine = one_ring l c h.glue h.owner id v (h.each id v at) one in
-      let part : IsPart c h.glue p = mine.0 in
+      let part : IsPart l c h.glue p = mine.0 in
       let st : Stands l c = standing_of stands l s h in
       let ok : Listable l c lit v = listable l c h.glue lit v (left_sound c.opening c h.left) part h.places.units t may in
       let w : ℕ = unit_at l (length c.units) in
@@ -159,7 +159,7 @@ module _ {S : Type 0} (stands : S → BookOrigin → Layout → CoreOpening → 
       let one = may.writing.0 in
       let t = (h.each id v at).told ready in
       let mine = one_ring l c h.glue h.owner id v (h.each id v at) one in
-      let part : IsPart c h.glue p = mine.0 in
+      let part : IsPart l c h.glue p = mine.0 in
       let st : Stands l c = standing_of stands l s h in
       let ok : Listable l c lit v = listable l c h.glue lit v (left_sound c.opening c h.left) part h.places.units t may in
       let own = h.stored id v 0 p at (ap (λ ps. get_elem? ps 0) one) in
@@ -184,7 +184,7 @@ module _ {S : Type 0} (stands : S → BookOrigin → Layout → CoreOpening → 
         turn = λ _ _. refl;
         units = omega arith;
         kept_turn = λ i ne e. absurd (ne (some_same i r (sym e ∙ ok.turn)));
-        refused = λ _ x e. e;
+        refused = λ _ _ x e. e;
         own = λ _ _. refl;
         stop_stays = λ _ e. e;
         stop_new = λ _ e. inl e;
@@ -235,7 +235,7 @@ module _ {S : Type 0} (stands : S → BookOrigin → Layout → CoreOpening → 
       let n : ℕ = slice_index s.words 2 in
       let next = (count_next s h id v at ready one).0 in
       let mine = one_ring k.layout h.core h.glue h.owner id v (h.each id v at) one in
-      let few = seen_few h.core (left_sound h.core.opening h.core h.left) h.glue (only v) mine.0 in
+      let few = seen_few k.layout h.core (left_sound h.core.opening h.core h.left) h.glue (only v) mine.0 in
       let n_is = h.words.listed_is in
       let first = ap (λ (us : List Literal). length us) h.places.first.1 in
       let long = length-append h.core.opening.units h.places.first.0 in
@@ -275,9 +275,9 @@ module _ {S : Type 0} (stands : S → BookOrigin → Layout → CoreOpening → 
 -- the list has room
 pub seen_room : (v : View) → Seen v → v.parts ≡ only v ∷ [] → (length (only v).core.seen ≤ 2 * v.layout.vars) × ((only v).listed ≤ 2 * v.layout.vars)
 seen_room v s one =
-    let part : IsPart s.core s.glue (only v) = s.parts 0 (only v) (ap (λ ps. get_elem? ps 0) one) in
+    let part : IsPart v.layout s.core s.glue (only v) = s.parts 0 (only v) (ap (λ ps. get_elem? ps 0) one) in
     let sound = left_sound s.core.opening s.core s.left in
-    let few = seen_few s.core sound s.glue (only v) part in
+    let few = seen_few v.layout s.core sound s.glue (only v) part in
     let all = few_distinct v.layout.vars s.core.units sound.units.distinct s.standing.units in
     let listed = part.listed in
     (omega arith, omega arith)
@@ -294,8 +294,8 @@ shorter_front (x ∷ xs) (y ∷ ys) ks ls e le =
 -- a ring that has seen as many units as were listed from the start has seen those
 pub seen_first : (v : View) → Seen v → v.parts ≡ only v ∷ [] → length v.opening.units ≤ length (only v).core.seen → (later : List Literal) × ((only v).core.seen ≡ v.opening.units ++ later)
 seen_first v s one le =
-    let part : IsPart s.core s.glue (only v) = s.parts 0 (only v) (ap (λ ps. get_elem? ps 0) one) in
-    let front = units_front s.core (left_sound s.core.opening s.core s.left) s.glue (only v) part in
+    let part : IsPart v.layout s.core s.glue (only v) = s.parts 0 (only v) (ap (λ ps. get_elem? ps 0) one) in
+    let front = units_front v.layout s.core (left_sound s.core.opening s.core s.left) s.glue (only v) part in
     let first = s.places.first in
     shorter_front (only v).core.seen v.opening.units front.0 first.0 (sym front.1 ∙ first.1 ∙ ap (λ (o : CoreOpening). o.units ++ first.0) (sym s.opening)) le
 
@@ -316,7 +316,7 @@ still lit n v may =
 
 pub publish_room : (lit : Literal) (v : View) → Seen v → MayPublish lit v → length (only v).core.seen < 2 * v.layout.vars
 publish_room lit v s may =
-    let part : IsPart s.core s.glue (only v) = s.parts 0 (only v) (ap (λ ps. get_elem? ps 0) may.writing.0) in
+    let part : IsPart v.layout s.core s.glue (only v) = s.parts 0 (only v) (ap (λ ps. get_elem? ps 0) may.writing.0) in
     let ok : Listable v.layout s.core lit v = listable v.layout s.core s.glue lit v (left_sound s.core.opening s.core s.left) part s.standing.units (refl, s.opening) may in
     let room = ok.room in
     let n = ap (λ (us : List Literal). length us) ok.units in

@@ -34,7 +34,7 @@ use Rattle.share_rule.proofs.Steps.{told}
 
 module _ {S : Type 0} (stands : S → BookOrigin → Layout → CoreOpening → List Entry → Bool → Type 0) (k : Key) where
   -- what is read of a held cell
-  pub words_of : (l : Layout) (s : Table (Option S) View) (h : Shows stands l s) (v : View) (p : IsPart h.core h.glue (only v)) (a : ℕ) → 0 < times_at a (only v).core.held
+  pub words_of : (l : Layout) (s : Table (Option S) View) (h : Shows stands l s) (v : View) (p : IsPart l h.core h.glue (only v)) (a : ℕ) → 0 < times_at a (only v).core.held
       → Spells s.words a (clause_of a v).number (glue_in (clause_of a v).number (only v).glues) (clause_of a v).lits
   words_of l s h v part a holds =
       let c : State = h.core in

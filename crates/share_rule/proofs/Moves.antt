@@ -33,6 +33,7 @@ use Rattle.sat_words.specs.Literal.{Literal}
 use Rattle.share_core.proofs.Leaving.{left_sound}
 use Rattle.share_rule.proofs.Parts.{cell_below, number_below}
 use Rattle.share_rule.specs.Room.{Places}
+use Rattle.share_rule.specs.Tight.{IsTight}
 use Rattle.share_rule.specs.Shown.{Words, Fits, Shows, IsHome, IsOut, KnowsFault, SomeTold, WasTold, ring_of}
 use Rattle.share_rule.proofs.Telling.{told_one, only_told, still_told}
 use Rattle.share_rule.proofs.Lists.{both_true, times_at_part, off}
@@ -48,7 +49,7 @@ part_owner l c glue owner j v i p f at =
 
 -- the pass's one ring
 pub one_ring : (l : Layout) (c : State) (glue owner : ℕ → ℕ) (id : ℕ) (v : View) → Fits l c glue owner id v → v.parts ≡ only v ∷ []
-    → IsPart c glue (only v) × (owner (ring_of (only v)) ≡ id) × (c.granted (ring_of (only v)) ≡ true)
+    → IsPart l c glue (only v) × (owner (ring_of (only v)) ≡ id) × (c.granted (ring_of (only v)) ≡ true)
 one_ring l c glue owner id v f is =
     let at : get_elem? v.parts 0 ≡ some (only v) = ap (λ ps. get_elem? ps 0) is in
     let o = part_owner l c glue owner id v 0 (only v) f at in
@@ -89,18 +90,18 @@ turn_is c i t e = sym (ap (λ (x : Taken). x.journal) (some_same (record { journ
 pub turn_same : (c d : State) (i : ℕ) → d.journal ≡ c.journal → d.turn ≡ c.turn → turn_of d i ≡ turn_of c i
 turn_same c d i j t = λ k. if is_ring i (t k) then Some (record { journal = j k }) else None
 
-pub refused_same : (c d : State) → d.opening ≡ c.opening → d.journal ≡ c.journal → (failed : Bool) (x : Refusal) → IsRefused c.opening c.journal failed x → IsRefused d.opening d.journal failed x
-refused_same c d o j failed Ended e = (λ i. ended (o i).formula (j i)) ∙ e
-refused_same c d o j failed Broken h = h
-refused_same c d o j failed ProofFault h = h
-refused_same c d o j failed (NoHole need largest) lt = lt
+pub refused_same : (l : Layout) (c d : State) → d.opening ≡ c.opening → d.journal ≡ c.journal → (failed : Bool) (x : Refusal) → IsRefused l c.opening c.journal failed x → IsRefused l d.opening d.journal failed x
+refused_same l c d o j failed Ended e = (λ i. ended (o i).formula (j i)) ∙ e
+refused_same l c d o j failed Broken h = h
+refused_same l c d o j failed ProofFault h = h
+refused_same l c d o j failed (NoHole need most) h = subst (λ (y : CoreOpening × List Entry). IsTight l y.0 y.1 need most) (λ i. (sym o i, sym j i)) h
 
 -- a ring that is told of a failed write was refused for as good a cause
-pub refused_more : (o : CoreOpening) (J : List Entry) (was now : Bool) → (was ≡ true → now ≡ true) → (x : Refusal) → IsRefused o J was x → IsRefused o J now x
-refused_more o J was now more Ended e = e
-refused_more o J was now more Broken e = more e
-refused_more o J was now more ProofFault e = more e
-refused_more o J was now more (NoHole need largest) lt = lt
+pub refused_more : (l : Layout) (o : CoreOpening) (J : List Entry) (was now : Bool) → (was ≡ true → now ≡ true) → (x : Refusal) → IsRefused l o J was x → IsRefused l o J now x
+refused_more l o J was now more Ended e = e
+refused_more l o J was now more Broken e = more e
+refused_more l o J was now more ProofFault e = more e
+refused_more l o J was now more (NoHole need most) h = h
 
 -- what slots have is the same if slots and clauses are
 pub given_same : (c d : State) (i : ℕ) (gave : List ClauseAt) → d.opening ≡ c.opening → ((k : ℕ) → d.slot k ≡ c.slot k) → ((a : ℕ) → clause_at d a ≡ clause_at c a) → HasGiven c i gave → HasGiven d i gave
@@ -135,7 +136,7 @@ pub record Frame (r : ℕ) (c d : State) (glue glue' : ℕ → ℕ) : Type 0 whe
   pub turn : (i : ℕ) → i ≢ r → turn_of d i ≡ turn_of c i
   pub units : length c.units ≤ length d.units
   pub kept_turn : (i : ℕ) → i ≢ r → c.turn ≡ Some i → (d.turn ≡ Some i) × (length d.units ≡ length c.units)
-  pub refused : (failed : Bool) (x : Refusal) → IsRefused c.opening c.journal failed x → IsRefused d.opening d.journal failed x
+  pub refused : (l : Layout) (failed : Bool) (x : Refusal) → IsRefused l c.opening c.journal failed x → IsRefused l d.opening d.journal failed x
   pub own : (i : ℕ) → i ≢ r → own_stop i d.stop ≡ own_stop i c.stop
   pub stop_stays : (t : Stop) → c.stop ≡ Some t → d.stop ≡ Some t
   pub stop_new : (t : Stop) → d.stop ≡ Some t → (c.stop ≡ Some t) ⊎ (t.ring ≡ r)
@@ -161,7 +162,7 @@ frame_of r c d glue s g p = record {
   turn = λ i ne. turn_same c d i s.journal s.turn;
   units = let q = ap (λ (us : List Literal). length us) s.units in omega arith;
   kept_turn = λ i ne e. (s.turn ∙ e, ap (λ (us : List Literal). length us) s.units);
-  refused = refused_same c d s.opening s.journal;
+  refused = λ l. refused_same l c d s.opening s.journal;
   own = λ i ne. ap (own_stop i) s.stop;
   stop_stays = λ t e. s.stop ∙ e;
   stop_new = λ t e. inl (sym s.stop ∙ e);
@@ -171,8 +172,8 @@ frame_of r c d glue s g p = record {
 }
 
 -- another ring's part stays
-pub part_else : (r : ℕ) (c d : State) (glue glue' : ℕ → ℕ) (p : RingPart) → Sound c → Frame r c d glue glue' → ring_of p ≢ r → IsPart c glue p → IsPart d glue' p
-part_else r c d glue glue' p sound f ne h =
+pub part_else : (l : Layout) (r : ℕ) (c d : State) (glue glue' : ℕ → ℕ) (p : RingPart) → Sound c → Frame r c d glue glue' → ring_of p ≢ r → IsPart l c glue p → IsPart l d glue' p
+part_else l r c d glue glue' p sound f ne h =
     let below : (xs : List ClauseAt) → All (IsCopy c.cell) xs → All (λ k. glue_in k.number p.glues ≡ glue k.number) xs → All (λ k. glue_in k.number p.glues ≡ glue' k.number) xs =
     λ xs copies was. all_map (λ (k : ClauseAt). glue_in k.number p.glues ≡ glue k.number) (λ (k : ClauseAt). glue_in k.number p.glues ≡ glue' k.number) xs
     (λ x i e. e ∙ sym (f.glue_kept x.number (let copy = all_in (IsCopy c.cell) xs x i copies in let low = cell_below c sound x.address copy.0 copy.1 in let q : copy.0.number ≡ x.number = copy.2 in omega arith))) was in
@@ -184,7 +185,7 @@ part_else r c d glue glue' p sound f ne h =
       turn = h.turn ∙ sym (f.turn (ring_of p) ne);
       listed = let u = f.units in let k = h.listed in omega arith;
       whole = λ e. let w = h.whole e in let k = f.kept_turn (ring_of p) ne w.0 in (k.0, k.1 ∙ w.1);
-      refused = λ x e. f.refused p.failed x (h.refused x e);
+      refused = λ x e. f.refused l p.failed x (h.refused x e);
       set = h.set ∙ sym (f.own (ring_of p) ne);
       ended_is = λ e. f.ends (h.ended_is e);
       given = f.given (ring_of p) p.gave ne h.ring h.given;
@@ -196,7 +197,7 @@ module _ {S : Type 0} (stands : S → BookOrigin → Layout → CoreOpening → 
       → Left d.opening d → Places l d → Words l d glue' ws → Frame r h.core d h.glue glue' → h.owner r ≡ id → r < d.opening.rings → d.granted r ≡ true
       → (fault : Bool) → IsHome stands h.origin l d fault (record { words = ws; homes = hs; views = set s.views id w }) → Fits l d glue' h.owner id w → (is_ready w.stage ≡ true → w.origin ≡ h.origin)
       → ((p : RingPart) → ring_of p ≢ r → IsOut l h.core s.words p → IsOut l d ws p) → ((i : ℕ) (p : RingPart) → get_elem? w.parts i ≡ some p → IsOut l d ws p)
-      → ((p : RingPart) → ring_of p ≢ r → IsPart d glue' p → KnowsFault h.fault p → KnowsFault fault p) → ((i : ℕ) (p : RingPart) → get_elem? w.parts i ≡ some p → KnowsFault fault p) → (fault ≡ true → WasTold (set s.views id w))
+      → ((p : RingPart) → ring_of p ≢ r → IsPart l d glue' p → KnowsFault h.fault p → KnowsFault fault p) → ((i : ℕ) (p : RingPart) → get_elem? w.parts i ≡ some p → KnowsFault fault p) → (fault ≡ true → WasTold (set s.views id w))
       → (n : Shows stands l (record { words = ws; homes = hs; views = set s.views id w })) × (n.core ≡ d)
   acted s h d glue' id r v w ws hs at left st words frame own inside now fault home fit from keep mine others knows teller =
       let sound : Sound h.core = left_sound h.core.opening h.core h.left in
@@ -234,7 +235,7 @@ module _ {S : Type 0} (stands : S → BookOrigin → Layout → CoreOpening → 
               (λ (x : (j ≡ id) × (w ≡ u)). knows i p (ap (λ (y : View). get_elem? y.parts i) x.1 ∙ e))
               (λ (x : (j ≢ id) × (get_elem? s.views j ≡ some u)). let f : Fits l h.core h.glue h.owner j u = h.each j u x.1 in
               let ne : ring_of p ≢ r = λ q. x.0 (sym (part_owner l h.core h.glue h.owner j u i p f e).1 ∙ ap h.owner q ∙ own) in
-              others p ne (part_else r h.core d h.glue glue' p sound frame ne (f.parts i p e)) (h.faults j u i p x.1 e))
+              others p ne (part_else l r h.core d h.glue glue' p sound frame ne (f.parts i p e)) (h.faults j u i p x.1 e))
               (at_set s.views id j w u is);
           each = λ j u is. ⊎_elim
               (λ (x : (j ≡ id) × (w ≡ u)). subst (λ (y : ℕ × View). Fits l d glue' h.owner y.0 y.1) (λ i. (sym x.0 i, x.1 i)) fit)
@@ -248,7 +249,7 @@ module _ {S : Type 0} (stands : S → BookOrigin → Layout → CoreOpening → 
                 settled = f.settled;
                 stops = record { stands = λ t e. frame.stop_stays t (f.stops.stands t e); own = f.stops.own };
                 told = λ op. let t = f.told op in (t.0, t.1 ∙ sym same);
-                parts = λ i y e. let p = part_owner l h.core h.glue h.owner j u i y f e in part_else r h.core d h.glue glue' y sound frame (λ q. x.0 (sym p.1 ∙ ap h.owner q ∙ own)) (f.parts i y e);
+                parts = λ i y e. let p = part_owner l h.core h.glue h.owner j u i y f e in part_else l r h.core d h.glue glue' y sound frame (λ q. x.0 (sym p.1 ∙ ap h.owner q ∙ own)) (f.parts i y e);
               })
               (at_set s.views id j w u is);
           stored = λ j u i p is e. ⊎_elim
@@ -262,9 +263,9 @@ module _ {S : Type 0} (stands : S → BookOrigin → Layout → CoreOpening → 
   -- the same if the pass has that one ring, and the grants stay
   pub moved_with : (s : Table (Option S) View) (h : Shows stands l s) (d : State) (glue' : ℕ → ℕ) (id : ℕ) (v w : View) (q : RingPart) (ws : List ℕ) (hs : List (maybe.Option (Option S))) → get_elem? s.views id ≡ some v
       → Left d.opening d → Places l d → Words l d glue' ws → Frame (ring_of (only v)) h.core d h.glue glue' → ((i : ℕ) → d.granted i ≡ h.core.granted i)
-      → (fault : Bool) → IsHome stands h.origin l d fault (record { words = ws; homes = hs; views = set s.views id w }) → v.parts ≡ only v ∷ [] → w.rights ≡ v.rights → w.parts ≡ q ∷ [] → ring_of q ≡ ring_of (only v) → ground w ≡ ground v → w.opening ≡ v.opening → is_ready w.stage ≡ is_ready v.stage → in_draft w.stage ≡ in_draft v.stage → IsStopOf d.stop w.stop w.parts → IsPart d glue' q
+      → (fault : Bool) → IsHome stands h.origin l d fault (record { words = ws; homes = hs; views = set s.views id w }) → v.parts ≡ only v ∷ [] → w.rights ≡ v.rights → w.parts ≡ q ∷ [] → ring_of q ≡ ring_of (only v) → ground w ≡ ground v → w.opening ≡ v.opening → is_ready w.stage ≡ is_ready v.stage → in_draft w.stage ≡ in_draft v.stage → IsStopOf d.stop w.stop w.parts → IsPart l d glue' q
       → ((p : RingPart) → ring_of p ≢ ring_of (only v) → IsOut l h.core s.words p → IsOut l d ws p) → IsOut l d ws q
-      → ((p : RingPart) → ring_of p ≢ ring_of (only v) → IsPart d glue' p → KnowsFault h.fault p → KnowsFault fault p) → KnowsFault fault q → (fault ≡ true → WasTold (set s.views id w))
+      → ((p : RingPart) → ring_of p ≢ ring_of (only v) → IsPart l d glue' p → KnowsFault h.fault p → KnowsFault fault p) → KnowsFault fault q → (fault ≡ true → WasTold (set s.views id w))
       → (n : Shows stands l (record { words = ws; homes = hs; views = set s.views id w })) × (n.core ≡ d)
   moved_with s h d glue' id v w q ws hs at left st words frame grants fault home vp wr wp qr wl wo wop wd stops part keep own others knows teller =
       let r : ℕ = ring_of (only v) in
@@ -281,8 +282,8 @@ module _ {S : Type 0} (stands : S → BookOrigin → Layout → CoreOpening → 
         parts = λ i y e. only_part i y e;
       }) (λ op. ap (λ q. q.1) wl ∙ h.origins id v at (sym wop ∙ op)) keep (λ i y e. only_stored i y e) others (λ i y e. only_knows i y e) teller
     where
-      only_part : (i : ℕ) (y : RingPart) → get_elem? w.parts i ≡ some y → IsPart d glue' y
-      only_part zero y e = subst (IsPart d glue') (some-injective q y (ap (λ ps. get_elem? ps 0) (sym wp) ∙ e)) part
+      only_part : (i : ℕ) (y : RingPart) → get_elem? w.parts i ≡ some y → IsPart l d glue' y
+      only_part zero y e = subst (IsPart l d glue') (some-injective q y (ap (λ ps. get_elem? ps 0) (sym wp) ∙ e)) part
       only_part (suc i) y e = absurd (some-ne-none y (sym e ∙ ap (λ ps. get_elem? ps (suc i)) wp))
 
       only_stored : (i : ℕ) (y : RingPart) → get_elem? w.parts i ≡ some y → IsOut l d ws y
@@ -296,7 +297,7 @@ module _ {S : Type 0} (stands : S → BookOrigin → Layout → CoreOpening → 
   -- the same if the ring neither takes the turn nor gives it back
   pub moved : (s : Table (Option S) View) (h : Shows stands l s) (d : State) (glue' : ℕ → ℕ) (id : ℕ) (v w : View) (q : RingPart) (ws : List ℕ) (hs : List (maybe.Option (Option S))) → get_elem? s.views id ≡ some v
       → Left d.opening d → Places l d → Words l d glue' ws → Frame (ring_of (only v)) h.core d h.glue glue' → ((i : ℕ) → d.granted i ≡ h.core.granted i)
-      → IsHome stands h.origin l d h.fault (record { words = ws; homes = hs; views = set s.views id w }) → v.parts ≡ only v ∷ [] → w.rights ≡ v.rights → w.parts ≡ q ∷ [] → with_turn q ≡ with_turn (only v) → ground w ≡ ground v → w.opening ≡ v.opening → is_ready w.stage ≡ is_ready v.stage → in_draft w.stage ≡ in_draft v.stage → IsStopOf d.stop w.stop w.parts → IsPart d glue' q
+      → IsHome stands h.origin l d h.fault (record { words = ws; homes = hs; views = set s.views id w }) → v.parts ≡ only v ∷ [] → w.rights ≡ v.rights → w.parts ≡ q ∷ [] → with_turn q ≡ with_turn (only v) → ground w ≡ ground v → w.opening ≡ v.opening → is_ready w.stage ≡ is_ready v.stage → in_draft w.stage ≡ in_draft v.stage → IsStopOf d.stop w.stop w.parts → IsPart l d glue' q
       → ((p : RingPart) → ring_of p ≢ ring_of (only v) → IsOut l h.core s.words p → IsOut l d ws p) → IsOut l d ws q
       → (n : Shows stands l (record { words = ws; homes = hs; views = set s.views id w })) × (n.core ≡ d)
   moved s h d glue' id v w q ws hs at left st words frame grants home vp wr wp qt wl wo wop wd stops part keep own =

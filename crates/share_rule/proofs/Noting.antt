@@ -43,6 +43,7 @@ use Rattle.share_rule.proofs.Lists.{all_more}
 use Rattle.share_core.proofs.Leaving.{left_sound, left_one}
 use Rattle.share_rule.proofs.Parts.{cell_below}
 use Rattle.share_rule.proofs.Rooms.{within_is, RoomSound, room_sound, room_more, freed_else}
+use Rattle.share_rule.proofs.Tightness.{tight_more}
 use Rattle.share_rule.proofs.Sheets.{begins_long, waiting_clause, beside_same, beside_both, IsSheet, Noted, next_after, long_entry}
 
 module _ (l : Layout) (small : table_words l ≤ 2 ^ 63) (r : ℕ) where
@@ -62,11 +63,11 @@ module _ (l : Layout) (small : table_words l ≤ 2 ^ 63) (r : ℕ) where
     room_next : (e : Entry) → room l o (c.journal ++ e ∷ []) ≡ room_after M e
     room_next e = room_more l o c.journal (e ∷ []) (begins_long c sound)
 
-    still : (K : List Entry) → ended o.formula c.journal ≡ false → (failed : Bool) (x : Refusal) → IsRefused o c.journal failed x → IsRefused o K failed x
-    still K going failed Ended e = absurd (true≢false (sym e ∙ going))
-    still K going failed Broken h = h
-    still K going failed ProofFault h = h
-    still K going failed (NoHole need largest) lt = lt
+    still : (K : List Entry) → ended o.formula c.journal ≡ false → (k : Layout) (failed : Bool) (x : Refusal) → IsRefused k o c.journal failed x → IsRefused k o (c.journal ++ K) failed x
+    still K going k failed Ended e = absurd (true≢false (sym e ∙ going))
+    still K going k failed Broken h = h
+    still K going k failed ProofFault h = h
+    still K going k failed (NoHole need most) h = tight_more k o c.journal K need most h
 
     writes : IsGoing o s.journal → Writes c r
     writes g = subst (λ (J : List Entry). IsGoing o J → Writes c r) (sym sh.journal) (λ k. record { turn = turn; going = k.going; room = k.room }) g
@@ -109,7 +110,7 @@ module _ (l : Layout) (small : table_words l ≤ 2 ^ 63) (r : ℕ) where
         built = λ a i x is m. is;
         counted = λ a x is n. is;
         next = next_after o c.journal e;
-        refused = still (c.journal ++ e ∷ []) going;
+        refused = still (e ∷ []) going;
         glue_else = λ k lt'. refl;
       };
       sheet = record {
@@ -204,7 +205,7 @@ module _ (l : Layout) (small : table_words l ≤ 2 ^ 63) (r : ℕ) where
             built = λ b i x is m. put_else c.cell a (Some new) b (λ q. absurd (none_some x (sym free ∙ ap c.cell (sym q) ∙ is))) ∙ is;
             counted = λ b x is m. put_else c.cell a (Some new) b (λ q. absurd (none_some x (sym free ∙ ap c.cell (sym q) ∙ is))) ∙ is;
             next = next_after o c.journal e;
-            refused = still (c.journal ++ e ∷ []) (writes going).going;
+            refused = still (e ∷ []) (writes going).going;
             glue_else = λ n low. put_else glue N g n (λ q. omega arith);
           };
           sheet = record {
@@ -274,7 +275,7 @@ module _ (l : Layout) (small : table_words l ≤ 2 ^ 63) (r : ℕ) where
             built = λ b i y is m. put_else c.cell a None b (λ q. absurd (none_some i (sym is_open ∙ ap (λ (z : Cell). z.maker) (some_same x y (sym there ∙ ap c.cell (sym q) ∙ is)) ∙ m))) ∙ is;
             counted = λ b y is m. put_else c.cell a None b (λ q. let z = ap (λ (k : Cell). k.count) (some_same x y (sym there ∙ ap c.cell (sym q) ∙ is)) in absurd (omega arith)) ∙ is;
             next = next_after o c.journal e;
-            refused = still (c.journal ++ e ∷ []) (writes going).going;
+            refused = still (e ∷ []) (writes going).going;
             glue_else = λ m low. refl;
           };
           sheet = record {

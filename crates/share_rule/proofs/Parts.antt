@@ -115,7 +115,7 @@ module _ {S : Type 0} (stands : S → BookOrigin → Layout → CoreOpening → 
           glue = h.glue;
           opening = told.1;
           stops = f.stops;
-          parts = f.parts;
+          parts = subst (λ (k : Layout). (i : ℕ) (p : RingPart) → get_elem? v.parts i ≡ some p → IsPart k h.core h.glue p) (sym told.0) f.parts;
         },
         refl,
       )
@@ -125,7 +125,7 @@ module _ {S : Type 0} (stands : S → BookOrigin → Layout → CoreOpening → 
 
 -- Held cells lie in the table, and those that are built
 
-only_part : (v : View) (s : Seen v) → v.parts ≡ only v ∷ [] → IsPart s.core s.glue (only v)
+only_part : (v : View) (s : Seen v) → v.parts ≡ only v ∷ [] → IsPart v.layout s.core s.glue (only v)
 only_part v s is = s.parts 0 (only v) (ap (λ (ps : List RingPart). get_elem? ps 0) is)
 
 -- the clause that is held at an address is an open cell's, in the table

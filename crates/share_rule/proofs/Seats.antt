@@ -58,7 +58,7 @@ abbrev Cut : (l : Layout) (c : State) (glue owner : ℕ → ℕ) (r j : ℕ) →
 Cut l c glue owner r j u = ((i : ℕ) → i < c.opening.rings → i ≢ r → times_in i u.rights ≡ one_if ((owner i == j) && not (c.granted i))) × (times_in r u.rights ≡ 0)
     × ((i : ℕ) → i < c.opening.rings → times_in i (map ring_of u.parts) ≡ one_if ((owner i == j) && c.granted i))
     × (in_draft u.stage ≡ false) × (is_ready u.stage ≡ true → (u.layout ≡ l) × (u.opening ≡ c.opening))
-    × ((i : ℕ) (p : RingPart) → get_elem? u.parts i ≡ some p → IsPart c glue p) × IsStopOf c.stop u.stop u.parts
+    × ((i : ℕ) (p : RingPart) → get_elem? u.parts i ≡ some p → IsPart l c glue p) × IsStopOf c.stop u.stop u.parts
 
 module _ (l : Layout) (c : State) (glue owner : ℕ → ℕ) (r : ℕ) where
   cut_here : (id : ℕ) (v : View) → Fits l c glue owner id v → times_in r v.rights ≡ one_if ((owner r == id) && not (c.granted r)) → 0 < times_in r v.rights → ((owner r == id) ≡ true) × (not (c.granted r) ≡ true) → Cut l c glue owner r id (without_right r v)

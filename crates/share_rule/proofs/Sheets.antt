@@ -53,11 +53,11 @@ pub record Beside (r : ℕ) (c d : State) (glue glue' : ℕ → ℕ) : Type 0 wh
   pub built : (a i : ℕ) (x : Cell) → c.cell a ≡ Some x → x.maker ≡ Some i → d.cell a ≡ Some x
   pub counted : (a : ℕ) (x : Cell) → c.cell a ≡ Some x → 0 < x.count → d.cell a ≡ Some x
   pub next : next_number c.opening c.journal ≤ next_number d.opening d.journal
-  pub refused : (failed : Bool) (x : Refusal) → IsRefused c.opening c.journal failed x → IsRefused d.opening d.journal failed x
+  pub refused : (l : Layout) (failed : Bool) (x : Refusal) → IsRefused l c.opening c.journal failed x → IsRefused l d.opening d.journal failed x
   pub glue_else : (n : ℕ) → n < next_number c.opening c.journal → glue' n ≡ glue n
 
 pub beside_same : (r : ℕ) (c : State) (glue : ℕ → ℕ) → Beside r c c glue glue
-beside_same r c glue = record { opening = refl; granted = λ i. refl; slot = λ i. refl; units = refl; turn = refl; stop = refl; others = λ i n. refl; open_cells = λ a x is o. is; built = λ a i x is m. is; counted = λ a x is n. is; next = omega arith; refused = λ _ x e. e; glue_else = λ n lt. refl }
+beside_same r c glue = record { opening = refl; granted = λ i. refl; slot = λ i. refl; units = refl; turn = refl; stop = refl; others = λ i n. refl; open_cells = λ a x is o. is; built = λ a i x is m. is; counted = λ a x is n. is; next = omega arith; refused = λ _ _ x e. e; glue_else = λ n lt. refl }
 
 pub beside_both : (r : ℕ) (b c d : State) (g h k : ℕ → ℕ) → Beside r b c g h → Beside r c d h k → Beside r b d g k
 beside_both r b c d g h k x y = record {
@@ -72,7 +72,7 @@ beside_both r b c d g h k x y = record {
   built = λ a i z is m. y.built a i z (x.built a i z is m) m;
   counted = λ a z is n. y.counted a z (x.counted a z is n) n;
   next = let p = x.next in let q = y.next in omega arith;
-  refused = λ f z e. y.refused f z (x.refused f z e);
+  refused = λ l f z e. y.refused l f z (x.refused l f z e);
   glue_else = λ n lt. let p = x.next in y.glue_else n (omega arith) ∙ x.glue_else n lt;
 }
 

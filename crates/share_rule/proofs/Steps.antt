@@ -64,7 +64,7 @@ module _ {S : Type 0} (stands : S → BookOrigin → Layout → CoreOpening → 
       let r : ℕ = ring_of p in
       let fit = h.each id v at in
       let mine = one_ring k.layout c h.glue h.owner id v fit holding.0 in
-      let part : IsPart c h.glue p = mine.0 in
+      let part : IsPart k.layout c h.glue p = mine.0 in
       let held : 0 < times_at a (c.part r).held = subst (λ (q : Part). 0 < times_at a q.held) part.part holding.1 in
       let sound : Sound c = left_sound c.opening c h.left in
       let one : c.opening.rings ≡ 1 = sym (ap (λ (o : CoreOpening). o.rings) (fit.told ready).1) ∙ alone in
@@ -82,7 +82,7 @@ module _ {S : Type 0} (stands : S → BookOrigin → Layout → CoreOpening → 
       let p : RingPart = only v in
       let r : ℕ = ring_of p in
       let mine = one_ring l c h.glue h.owner id v (h.each id v at) holding.0 in
-      let part : IsPart c h.glue p = mine.0 in
+      let part : IsPart l c h.glue p = mine.0 in
       let held : 0 < times_at a (c.part r).held = subst (λ (q : Part). 0 < times_at a q.held) part.part holding.1 in
       let sound : Sound c = left_sound c.opening c h.left in
       let is = held_is c sound r a part.ring held in
@@ -134,7 +134,7 @@ module _ {S : Type 0} (stands : S → BookOrigin → Layout → CoreOpening → 
       let p : RingPart = only v in
       let r : ℕ = ring_of p in
       let mine = one_ring l c h.glue h.owner id v (h.each id v at) holding.0 in
-      let part : IsPart c h.glue p = mine.0 in
+      let part : IsPart l c h.glue p = mine.0 in
       let held : 0 < times_at a (c.part r).held = subst (λ (q : Part). 0 < times_at a q.held) part.part holding.1 in
       let room' : (c.part r).shared < MAX_SHARES = subst (λ (q : Part). q.shared < MAX_SHARES) part.part room in
       let sound : Sound c = left_sound c.opening c h.left in

@@ -114,7 +114,7 @@ module _ {S : Type 0} (stands : S → BookOrigin → Layout → CoreOpening → 
       let p : RingPart = only v in
       let f = h.each id v at in
       let mine = one_ring l c h.glue h.owner id v f ring.0 in
-      let part : IsPart c h.glue p = mine.0 in
+      let part : IsPart l c h.glue p = mine.0 in
       let code : ℕ = kind + 8 * r in
       let t : Stop = stop_in code in
       let none : c.stop ≡ None = sym (word_is s h) ∙ ap stop_of zero_found in
@@ -140,7 +140,7 @@ module _ {S : Type 0} (stands : S → BookOrigin → Layout → CoreOpening → 
         turn = λ i ne. turn_same c d i refl refl;
         units = omega arith;
         kept_turn = λ i ne e. (e, refl);
-        refused = refused_same c d refl refl;
+        refused = λ y. refused_same y c d refl refl;
         own = λ i ne. ap (own_stop i) stop ∙ (λ j. if ne_eqb t.ring i (λ e. ne (sym e ∙ mine_ring)) j then Some t else None) ∙ ap (own_stop i) (sym none);
         stop_stays = λ u e. absurd (none_some u (sym none ∙ e));
         stop_new = λ u e. inr (ap (λ (x : Stop). x.ring) (some_same u t (sym e ∙ stop)) ∙ mine_ring);

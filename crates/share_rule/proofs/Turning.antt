@@ -94,7 +94,7 @@ module _ {S : Type 0} (stands : S → BookOrigin → Layout → CoreOpening → 
       let p : RingPart = only v in
       let r : ℕ = ring_of p in
       let mine = one_ring l c h.glue h.owner id v (h.each id v at) free_pass.0 in
-      let part : IsPart c h.glue p = mine.0 in
+      let part : IsPart l c h.glue p = mine.0 in
       let d : State = after c (TakeTurn r) in
       let st : Stands l c = standing_of stands l s h in
       let own = h.stored id v 0 p at (ap (λ ps. get_elem? ps 0) free_pass.0) in
@@ -110,7 +110,7 @@ module _ {S : Type 0} (stands : S → BookOrigin → Layout → CoreOpening → 
         turn = λ i ne. turn_other d r i refl ne ∙ sym (turn_none c i none);
         units = omega arith;
         kept_turn = λ i _ e. absurd (none_some i (sym none ∙ e));
-        refused = λ _ x e. e;
+        refused = λ _ _ x e. e;
         own = λ _ _. refl;
         stop_stays = λ _ e. e;
         stop_new = λ _ e. inl e;
@@ -120,7 +120,7 @@ module _ {S : Type 0} (stands : S → BookOrigin → Layout → CoreOpening → 
       })
       (λ _. refl) h.fault (λ e. absurd (none_some r (sym e))) free_pass.0 refl (ap (on_first (take_part c.journal h.fault)) free_pass.0) refl refl refl refl refl
       (stops_same c.stop v (after_take free new c.journal h.fault v) (take_part c.journal h.fault p) free_pass.0 (ap (on_first (take_part c.journal h.fault)) free_pass.0) refl refl (h.each id v at).stops)
-      (record { ring = part.ring; part = part.part; glues = part.glues; made_glues = part.made_glues; turn = sym (turn_some d r refl); listed = part.listed; whole = λ e. absurd (true≢false (sym e)); refused = λ x e. refused_more c.opening c.journal p.failed h.fault knew.told x (part.refused x e); set = part.set; ended_is = part.ended_is; given = given_same c d r p.gave refl (λ _. refl) (λ _. refl) part.given })
+      (record { ring = part.ring; part = part.part; glues = part.glues; made_glues = part.made_glues; turn = sym (turn_some d r refl); listed = part.listed; whole = λ e. absurd (true≢false (sym e)); refused = λ x e. refused_more l c.opening c.journal p.failed h.fault knew.told x (part.refused x e); set = part.set; ended_is = part.ended_is; given = given_same c d r p.gave refl (λ _. refl) (λ _. refl) part.given })
       (λ y ne z. (turn_stored l c d s.words new (ring_of y) y.stored st (λ _ _ _ is _. is) z.0, λ n e. absurd (none_some (ring_of y) (sym none ∙ (z.1 n e).0))))
       (turn_stored l c d s.words new r p.stored st (λ _ _ _ is _. is) own.0, λ n e. absurd (none_some r (sym none ∙ (own.1 n e).0)))
       (λ _ _ _ z. z) (record { told = λ e. e; taken = λ t _ e. e })
@@ -197,7 +197,7 @@ module _ {S : Type 0} (stands : S → BookOrigin → Layout → CoreOpening → 
       (w, keeps, tt, inr next.0, ((λ e. absurd (ne e)), (λ _. (refl, refl, told_out s (set s.words 0 n) s.homes id v w at ready next.0)))))
 
   -- the sheet of a ring that has the turn is the core's
-  sheet_is : (c : State) (glue : ℕ → ℕ) (v : View) (t : Taken) → IsPart c glue (only v) → (only v).turn ≡ Some t → (c.turn ≡ Some (ring_of (only v))) × IsSheet c glue (ring_of (only v)) (sheet_of v)
+  sheet_is : (c : State) (glue : ℕ → ℕ) (v : View) (t : Taken) → IsPart k.layout c glue (only v) → (only v).turn ≡ Some t → (c.turn ≡ Some (ring_of (only v))) × IsSheet c glue (ring_of (only v)) (sheet_of v)
   sheet_is c glue v t part has =
       let is : turn_of c (ring_of (only v)) ≡ Some t = sym part.turn ∙ has in
       (turn_has c (ring_of (only v)) t is, record { journal = ap journal_in has ∙ turn_is c (ring_of (only v)) t is; part = part.part; held_glues = part.glues; made_glues = part.made_glues })
@@ -212,7 +212,7 @@ module _ {S : Type 0} (stands : S → BookOrigin → Layout → CoreOpening → 
       let p : RingPart = only v in
       let r : ℕ = ring_of p in
       let mine = one_ring l c h.glue h.owner id v (h.each id v at) writing.0 in
-      let part : IsPart c h.glue p = mine.0 in
+      let part : IsPart l c h.glue p = mine.0 in
       let on = sheet_is c h.glue v writing.1.0 part writing.1.1 in
       let t = (h.each id v at).told ready in
       let may' : AllNoted l c.opening r (sheet_of v) ns = subst (λ (y : Layout × CoreOpening). AllNoted y.0 y.1 r (sheet_of v) ns) (λ i. (t.0 i, t.1 i)) may in
@@ -249,7 +249,7 @@ module _ {S : Type 0} (stands : S → BookOrigin → Layout → CoreOpening → 
         own = λ i _. ap (own_stop i) beside.stop;
         stop_stays = λ t e. beside.stop ∙ e;
         stop_new = λ t e. inl (sym beside.stop ∙ e);
-        ends = beside.refused failed Ended;
+        ends = beside.refused l failed Ended;
         given = λ i gave _ lt' given. noted_given r c m h.glue all.glue' i gave sound beside lt' given;
         glue_kept = beside.glue_else;
       })
@@ -265,9 +265,9 @@ module _ {S : Type 0} (stands : S → BookOrigin → Layout → CoreOpening → 
         turn = sym (turn_none d (written_of v ns).part.ring refl);
         listed = let q = ap (λ (us : List Literal). length us) beside.units in let g = part.listed in omega arith;
         whole = λ e. absurd (true≢false (sym e));
-        refused = refusals d.opening d.journal x p.refused (subst (λ (y : CoreOpening × List Entry). IfSome x (λ z. IsRefused y.0 y.1 failed z)) (λ i. ((t.1 ∙ sym beside.opening) i, sheet.journal i)) cause.0) (λ y e. refused_more d.opening d.journal p.failed failed cause.1 y (beside.refused p.failed y (part.refused y e)));
+        refused = refusals l d.opening d.journal x p.refused (subst (λ (y : Layout × (CoreOpening × List Entry)). IfSome x (λ z. IsRefused y.0 y.1.0 y.1.1 failed z)) (λ i. (t.0 i, ((t.1 ∙ sym beside.opening) i, sheet.journal i))) cause.0) (λ y e. refused_more l d.opening d.journal p.failed failed cause.1 y (beside.refused l p.failed y (part.refused y e)));
         set = part.set ∙ (λ i. own_stop (sym same_ring i) (sym beside.stop i));
-        ended_is = λ e. now_ended d.opening d.journal p.ended (λ was. beside.refused failed Ended (part.ended_is was)) (ap (λ (b : Bool). p.ended || b) (λ i. ended ((beside.opening ∙ sym t.1) i).formula (sym sheet.journal i)) ∙ e);
+        ended_is = λ e. now_ended d.opening d.journal p.ended (λ was. beside.refused l failed Ended (part.ended_is was)) (ap (λ (b : Bool). p.ended || b) (λ i. ended ((beside.opening ∙ sym t.1) i).formula (sym sheet.journal i)) ∙ e);
         given = subst (λ (i : ℕ). HasGiven d i p.gave) (sym same_ring) (noted_given r c m h.glue all.glue' r p.gave sound beside part.ring part.given);
       })
       (λ y ne z. (turn_stored l c d s.words n (ring_of y) y.stored st beside.built z.0, λ q e. absurd (ne (some_same (ring_of y) r (sym (z.1 q e).0 ∙ on.0)))))
@@ -281,9 +281,9 @@ module _ {S : Type 0} (stands : S → BookOrigin → Layout → CoreOpening → 
       now_ended o K true before e = before refl
       now_ended o K false before e = e
 
-      refusals : (o : CoreOpening) (K : List Entry) (x y : Option Refusal) → IfSome x (λ z. IsRefused o K failed z) → ((z : Refusal) → y ≡ Some z → IsRefused o K failed z) → (z : Refusal) → newer x y ≡ Some z → IsRefused o K failed z
-      refusals o K None y cause old z e = old z e
-      refusals o K (Some w) y cause old z e = subst (IsRefused o K failed) (some_same w z e) cause
+      refusals : (l : Layout) (o : CoreOpening) (K : List Entry) (x y : Option Refusal) → IfSome x (λ z. IsRefused l o K failed z) → ((z : Refusal) → y ≡ Some z → IsRefused l o K failed z) → (z : Refusal) → newer x y ≡ Some z → IsRefused l o K failed z
+      refusals l o K None y cause old z e = old z e
+      refusals l o K (Some w) y cause old z e = subst (IsRefused l o K failed) (some_same w z e) cause
 
   gives_at : (slots id : ℕ) (v : View) (b : S) (ns : List Note) (x : Option Refusal) (failed : Bool) → slots ≡ 1 → is_ready v.stage ≡ true → IsWriting v
       → MayWrite v ns → WasRefused v ns x failed → stands b v.origin v.layout v.opening (written_of v ns).journal failed

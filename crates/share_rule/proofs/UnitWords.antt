@@ -94,7 +94,7 @@ unit_front [] rest u = refl
 unit_front (x ∷ seen) rest u = unit_front seen rest u
 
 -- What a ring knows of the units of the core
-module _ (c : State) (sound : Sound c) (glue : ℕ → ℕ) (p : RingPart) (part : IsPart c glue p) where
+module _ (l : Layout) (c : State) (sound : Sound c) (glue : ℕ → ℕ) (p : RingPart) (part : IsPart l c glue p) where
   pub units_front : (rest : List Literal) × (c.units ≡ p.core.seen ++ rest)
   units_front = let u = sound.units.seen (ring_of p) in (u.0, u.1 ∙ ap (λ (q : Part). q.seen ++ u.0) (sym part.part))
 
@@ -112,12 +112,12 @@ pub record Listable (l : Layout) (c : State) (lit : Literal) (v : View) : Type 0
   pub new : has c.units lit ≡ false
   pub room : length c.units < 2 * l.vars
 
-pub listable : (l : Layout) (c : State) (glue : ℕ → ℕ) (lit : Literal) (v : View) → Sound c → IsPart c glue (only v) → InVars l c.units → (v.layout ≡ l) × (v.opening ≡ c.opening) → MayPublish lit v → Listable l c lit v
+pub listable : (l : Layout) (c : State) (glue : ℕ → ℕ) (lit : Literal) (v : View) → Sound c → IsPart l c glue (only v) → InVars l c.units → (v.layout ≡ l) × (v.opening ≡ c.opening) → MayPublish lit v → Listable l c lit v
 listable l c glue lit v sound part vars t may =
     let p : RingPart = only v in
     let w = part.whole may.whole.0 in
     let long = may.whole.1 in
-    let us : c.units ≡ p.core.seen = seen_whole c sound glue p part (w.1 ∙ long) in
+    let us : c.units ≡ p.core.seen = seen_whole l c sound glue p part (w.1 ∙ long) in
     let is : turn_of c (ring_of p) ≡ Some may.writing.1.0 = sym part.turn ∙ may.writing.1.1 in
     let J : journal_in p.turn ≡ c.journal = ap journal_in may.writing.1.1 ∙ turn_is c (ring_of p) may.writing.1.0 is in
     let out : has c.units lit ≡ false = ap (λ (ks : List Literal). has ks lit) us ∙ may.new in

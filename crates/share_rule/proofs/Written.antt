@@ -27,7 +27,7 @@ few_written l o r s (n ∷ ns) h few =
 -- what is taken has room
 pub few_taken : (v : View) → Seen v → IsWriting v → length (sheet_of v).journal ≤ MAX_ENTRIES
 few_taken v s w =
-    let part : IsPart s.core s.glue (only v) = s.parts 0 (only v) (ap (λ ps. get_elem? ps 0) w.0) in
+    let part : IsPart v.layout s.core s.glue (only v) = s.parts 0 (only v) (ap (λ ps. get_elem? ps 0) w.0) in
     let is : turn_of s.core (ring_of (only v)) ≡ Some w.1.0 = sym part.turn ∙ w.1.1 in
     let room = (left_sound s.core.opening s.core s.left).log.room in
     let q = ap (λ (J : List Entry). length J) (ap journal_in w.1.1 ∙ turn_is s.core (ring_of (only v)) w.1.0 is) in
@@ -36,7 +36,7 @@ few_taken v s w =
 -- a ring's number
 pub ring_few : (v : View) → Seen v → v.parts ≡ only v ∷ [] → ring_of (only v) < 16
 ring_few v s one =
-    let part : IsPart s.core s.glue (only v) = s.parts 0 (only v) (ap (λ ps. get_elem? ps 0) one) in
+    let part : IsPart v.layout s.core s.glue (only v) = s.parts 0 (only v) (ap (λ ps. get_elem? ps 0) one) in
     let lt = part.ring in
     let few = s.left.opens.few_rings in
     omega arith
@@ -46,7 +46,7 @@ ring_few v s one =
 -- the state that the notes leave
 pub written_core : (v : View) (s : Seen v) (w : IsWriting v) (ns : List Note) → MayWrite v ns → Noted v.layout (ring_of (only v)) s.core s.glue ns (written_of v ns)
 written_core v s w ns may =
-    let part : IsPart s.core s.glue (only v) = s.parts 0 (only v) (ap (λ ps. get_elem? ps 0) w.0) in
+    let part : IsPart v.layout s.core s.glue (only v) = s.parts 0 (only v) (ap (λ ps. get_elem? ps 0) w.0) in
     let is : turn_of s.core (ring_of (only v)) ≡ Some w.1.0 = sym part.turn ∙ w.1.1 in
     let sheet : IsSheet s.core s.glue (ring_of (only v)) (sheet_of v) = record { journal = ap journal_in w.1.1 ∙ turn_is s.core (ring_of (only v)) w.1.0 is; part = part.part; held_glues = part.glues; made_glues = part.made_glues } in
     subst (λ (o : CoreOpening). Noted v.layout (ring_of (only v)) s.core s.glue ns (sheet_after o (ring_of (only v)) (sheet_of v) ns)) (sym s.opening)

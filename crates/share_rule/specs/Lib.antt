@@ -1,5 +1,6 @@
 pub mod Layout
 pub mod Room
+pub mod Tight
 pub mod Books
 pub mod Cells
 pub mod Views

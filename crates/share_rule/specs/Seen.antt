@@ -19,6 +19,7 @@ use Rattle.share_rule.specs.declared.view.Refusal.TheVariants.{Ended, Broken, Pr
 use Rattle.share_rule.specs.declared.view.View.{View}
 use Rattle.share_rule.specs.Layout.{first_cell, table_words, InVars}
 use Rattle.share_rule.specs.Room.{Places}
+use Rattle.share_rule.specs.Tight.{IsTight}
 use Rattle.share_rule.specs.Views.{glue_in, own_stop}
 
 -- the words of cells lie in the table and don't overlap; all literals are on the layout's variables
@@ -37,11 +38,11 @@ abbrev pub turn_of : State → ℕ → Option Taken
 turn_of c r = if is_ring r c.turn then Some (record { journal = c.journal }) else None
 
 -- it was refused for cause, by a ring that was told of a failed write or not
-abbrev pub IsRefused : CoreOpening → List Entry → Bool → Refusal → Type 0
-IsRefused o J failed Ended = ended o.formula J ≡ true
-IsRefused o J failed Broken = failed ≡ true
-IsRefused o J failed ProofFault = failed ≡ true
-IsRefused o J failed (NoHole need largest) = largest < need
+abbrev pub IsRefused : Layout → CoreOpening → List Entry → Bool → Refusal → Type 0
+IsRefused l o J failed Ended = ended o.formula J ≡ true
+IsRefused l o J failed Broken = failed ≡ true
+IsRefused l o J failed ProofFault = failed ≡ true
+IsRefused l o J failed (NoHole need most) = IsTight l o J need most
 
 -- what the ring's slots have for others is among these clauses
 abbrev pub HasGiven : State → ℕ → List ClauseAt → Type 0
@@ -50,7 +51,7 @@ HasGiven c r gave = (to class place : ℕ) → to < c.opening.rings → class < 
 
 -- the part is the ring's; the glues are those of the clauses that it holds and builds; what it knows of the turn, of the
 -- listed units, of the log's end, of the stop and of its slots is so
-pub record IsPart (c : State) (glue : ℕ → ℕ) (p : RingPart) : Type 0 where
+pub record IsPart (l : Layout) (c : State) (glue : ℕ → ℕ) (p : RingPart) : Type 0 where
   pub ring : p.core.ring < c.opening.rings
   pub part : p.core ≡ c.part p.core.ring
   pub glues : All (λ h. glue_in h.number p.glues ≡ glue h.number) p.core.held
@@ -58,7 +59,7 @@ pub record IsPart (c : State) (glue : ℕ → ℕ) (p : RingPart) : Type 0 where
   pub turn : p.turn ≡ turn_of c p.core.ring
   pub listed : p.listed ≤ length c.units
   pub whole : p.whole ≡ true → (c.turn ≡ Some p.core.ring) × (length c.units ≡ p.listed)
-  pub refused : (x : Refusal) → p.refused ≡ Some x → IsRefused c.opening c.journal p.failed x
+  pub refused : (x : Refusal) → p.refused ≡ Some x → IsRefused l c.opening c.journal p.failed x
   pub set : p.set ≡ own_stop p.core.ring c.stop
   pub ended_is : p.ended ≡ true → ended c.opening.formula c.journal ≡ true
   pub given : HasGiven c p.core.ring p.gave
@@ -78,4 +79,4 @@ pub record Seen (v : View) : Type 0 where
   pub glue : ℕ → ℕ
   pub opening : v.opening ≡ core.opening
   pub stops : IsStopOf core.stop v.stop v.parts
-  pub parts : (i : ℕ) (p : RingPart) → get_elem? v.parts i ≡ some p → IsPart core glue p
+  pub parts : (i : ℕ) (p : RingPart) → get_elem? v.parts i ≡ some p → IsPart v.layout core glue p

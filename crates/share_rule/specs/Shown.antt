@@ -62,7 +62,7 @@ pub record Fits (l : Layout) (c : State) (glue owner : ℕ → ℕ) (j : ℕ) (v
   pub settled : in_draft v.stage ≡ false
   pub stops : IsStopOf c.stop v.stop v.parts
   pub told : is_ready v.stage ≡ true → (v.layout ≡ l) × (v.opening ≡ c.opening)
-  pub parts : (i : ℕ) (p : RingPart) → get_elem? v.parts i ≡ some p → IsPart c glue p
+  pub parts : (i : ℕ) (p : RingPart) → get_elem? v.parts i ≡ some p → IsPart l c glue p
 
 -- the ring builds a cell that the word belongs to
 abbrev pub Builds : State → ℕ → ℕ → Type 0

@@ -139,7 +139,7 @@ MayWrite v ns = AllNoted v.layout v.opening (only v).core.ring (sheet_of v) ns
 
 -- it was refused for cause, and knows whether a write has failed
 abbrev pub WasRefused : View → List Note → Option Refusal → Bool → Type 0
-WasRefused v ns x failed = IfSome x (λ y. IsRefused v.opening (written_of v ns).journal failed y) × ((only v).failed ≡ true → failed ≡ true)
+WasRefused v ns x failed = IfSome x (λ y. IsRefused v.layout v.opening (written_of v ns).journal failed y) × ((only v).failed ≡ true → failed ≡ true)
 
 -- the newer of two, if there is one
 abbrev pub newer : Option Refusal → Option Refusal → Option Refusal

@@ -3,7 +3,7 @@
 //!
 //! A `Pass` is a seat at the table. It moves the words of the rings whose parts it has, by the steps of `plays`,
 //! `turn_plays`, `exchange_plays` and `unit_plays`; the crates above take them. `laws`, `turn_laws`, `exchange_laws` and
-//! `unit_laws` say of each step which event of the core it is.
+//! `unit_laws` say of each step which event of the core it is, and `room_laws` what it means that there was no room.
 #![tactic(auto)]
 
 mod closing;
@@ -17,6 +17,7 @@ mod note;
 mod passes;
 mod places;
 mod plays;
+mod room_laws;
 mod rule;
 mod turn_laws;
 mod turn_plays;
@@ -45,6 +46,9 @@ pub use making::{MakeStop, make};
 pub use note::Note;
 pub use passes::{join, split};
 pub use plays::{Drops, Grants, Loads, Looks, Opens, Shares, Stores};
+pub use room_laws::{
+    a_noted_want_of_room_is_one, a_turn_without_a_hole_is_tight, longer_journals_stay_tight,
+};
 pub use rule::{Key, Pass, Rule};
 use std::alloc::Global;
 pub use turn_laws::{a_turn_is_its_events, a_turn_missed_is_no_event, a_turn_taken_is_its_event};

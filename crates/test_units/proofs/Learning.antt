@@ -23,7 +23,7 @@ use Rattle.share_rule.proofs.Moves.{turn_is}
 -- it is what it learned by its own entries
 pub recent_taken : (v : View) → Seen v → IsWriting v → recent (only v).core.ring (journal_in (only v).turn) ≡ recent (only v).core.ring (map (λ (w : Placed). w.entry) (only v).core.wrote)
 recent_taken v s w =
-    let part : IsPart s.core s.glue (only v) = s.parts 0 (only v) (ap (λ ps. get_elem? ps 0) w.0) in
+    let part : IsPart v.layout s.core s.glue (only v) = s.parts 0 (only v) (ap (λ ps. get_elem? ps 0) w.0) in
     let is : turn_of s.core (ring_of (only v)) ≡ Some w.1.0 = sym part.turn ∙ w.1.1 in
     let J : journal_in (only v).turn ≡ s.core.journal = ap journal_in w.1.1 ∙ turn_is s.core (ring_of (only v)) w.1.0 is in
     ap (recent (ring_of (only v))) J ∙ recent_own s.core (ring_of (only v)) (left_sound s.core.opening s.core s.left) part.ring ∙ ap (λ (p : Part). recent (ring_of (only v)) (map (λ (w : Placed). w.entry) p.wrote)) (sym part.part)

@@ -48,7 +48,7 @@ pub told_own : (v : View) → Seen v → IsWriting v → (lit : Literal) → lis
 told_own v s w lit own =
     let P : List Literal → Bool = same_set (lit ∷ []) in
     let F = v.opening.formula in
-    let part : IsPart s.core s.glue (only v) = s.parts 0 (only v) (ap (λ ps. get_elem? ps 0) w.0) in
+    let part : IsPart v.layout s.core s.glue (only v) = s.parts 0 (only v) (ap (λ ps. get_elem? ps 0) w.0) in
     let is : turn_of s.core (ring_of (only v)) ≡ Some w.1.0 = sym part.turn ∙ w.1.1 in
     let J : journal_in (only v).turn ≡ s.core.journal = ap journal_in w.1.1 ∙ turn_is s.core (ring_of (only v)) w.1.0 is in
     let e = (left_sound s.core.opening s.core s.left).entries in

@@ -3,7 +3,9 @@ use Rattle.sat_words.specs.Literal.{Literal, IsOn}
 use Rattle.sat_words.specs.Clause.{is_empty}
 use Rattle.sat_words.specs.declared.line.Line.TheVariants.{Add as AddLine}
 use Rattle.clause_cell.specs.Packing.{words_for}
-use Rattle.clause_cell.specs.Free.{without_fit, first_fit}
+use Rattle.clause_cell.specs.declared.holes.HoleStop.{HoleStop}
+use Rattle.clause_cell.specs.declared.holes.HoleStop.TheVariants.{NoHole, Memory}
+use Rattle.clause_cell.specs.Free.{largest, without_fit, first_fit}
 use Rattle.clause_cell.proofs.Ranges.{some_largest}
 use Rattle.io_edge.specs.Causes.{Rose}
 use Rattle.drat_text.specs.LineState.{LineState}
@@ -15,9 +17,43 @@ use Rattle.share_rule.specs.Turns.{next_number}
 use Rattle.share_rule.specs.Views.{only}
 use Rattle.share_rule.proofs.Sheets.{long_entry}
 use Rattle.log_book.specs.Turns.{sheet}
-use Rattle.log_book.proofs.Standings.{line_turn, failed_turn}
+use Rattle.log_book.proofs.Standings.{line_turn, failed_turn, stopped_either, stopped_room}
 use Rattle.log_book.proofs.Waits.{all_on, few_lits, not_empty}
 use Rattle.log_book.proofs.turn.Turn.write_clause.Goals as goal
+
+-- there is no memory for the literals
+pub returns-in_default-from_slice-clause-stopped : goal.returns-in_default-from_slice-clause-stopped
+returns-in_default-from_slice-clause-stopped g c =
+    stopped_either g.S.Sink.written g.S.Sink.flushed g.S.Sink.target g.S.Sink.faults c.args.pass.now.me.0 c.args.self.now c.requires.seen c.requires.turn c.args.self.now refl refl (record { lines = refl; kept = refl; entries = refl; ended = refl; holes = refl })
+    c.in_default.ensures.going.1 c.args.kind c.args.lits.now c.words_for-need.result c.requires.note c.words_for-need.ensures c.no_memory.result c.no_memory.ensures
+
+-- or for the line
+pub returns-then-is_err-clause-stopped : goal.returns-then-is_err-clause-stopped
+returns-then-is_err-clause-stopped g c =
+    stopped_either g.S.Sink.written g.S.Sink.flushed g.S.Sink.target g.S.Sink.faults c.args.pass.now.me.0 c.args.self.now c.requires.seen c.requires.turn c.make_room.new.self c.make_room.ensures.noted.0 c.make_room.ensures.noted.1 c.make_room.ensures.same
+    c.in_default.ensures.going.1 c.args.kind c.args.lits.now c.words_for-need.result c.requires.note c.words_for-need.ensures c.no_memory-then-is_err.result c.no_memory-then-is_err.ensures
+
+-- no hole is long enough
+abbrev need_of : HoleStop → ℕ
+need_of (NoHole need most) = need
+need_of Memory = 0
+
+abbrev most_of : HoleStop → ℕ
+most_of (NoHole need most) = most
+most_of Memory = 0
+
+pub returns-in-Err-NoHole-clause-stopped : goal.returns-in-Err-NoHole-clause-stopped
+returns-in-Err-NoHole-clause-stopped g c =
+    let same = c.make_room.ensures.same in
+    let e = c.in-Err-NoHole in
+    let none = e.ensures.none in
+    let told = sym e.field-0-is ∙ none.0 in
+    let need = e.need-is ∙ ap need_of told in
+    let most = e.largest-is ∙ ap most_of told in
+    let short = none.1 in
+    stopped_room g.S.Sink.written g.S.Sink.flushed g.S.Sink.target g.S.Sink.faults c.args.pass.now.me.0 c.args.self.now c.requires.seen c.requires.turn _ c.make_room.ensures.noted.0 c.make_room.ensures.noted.1
+    (record { lines = same.lines; kept = same.kept; entries = same.entries; ended = same.ended; holes = e.ensures.back ∙ same.holes })
+    c.in_default.ensures.going.1 c.args.kind c.args.lits.now _ c.requires.note (need ∙ c.words_for-need.ensures) _ (most ∙ ap largest (sym e.ensures.back)) (omega (arith, need, most, short))
 
 pub returns-in-Ok-write-clause-added : goal.returns-in-Ok-write-clause-added
 returns-in-Ok-write-clause-added g c =

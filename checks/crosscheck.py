@@ -1,9 +1,9 @@
 """Checks the built program against exhaustive search and a naive DRAT checker, both of their own.
 
-Seeded random formulas of up to 16 variables, chains of equivalences, gates, colourings, pigeonhole formulas and formulas with
-the empty clause go through the program with `--proof`, each simplified and with `--no-simplify`, with 1, 2, 4, 8 or 16 rings,
-few words for clauses or many, half of the runs with `--check`, half with a seed, half with `--binary` and some with a small
-limit of lemmas, most formulas in odd spellings, on standard input or as a file. Its answer is compared with a truth table, its
+Seeded random formulas of up to 16 variables, chains of equivalences, gates, colourings, constraints that at most one literal is true,
+pigeonhole formulas and formulas with the empty clause go through the program with `--proof`, each simplified and with `--no-simplify`,
+with 1, 2, 4, 8 or 16 rings, few words for clauses or many, half of the runs with `--check`, half with a seed, half with `--binary`, half
+with `--add` and some with a small limit of lemmas, most formulas in odd spellings, on standard input or as a file. Its answer is compared with a truth table, its
 `v` lines with the clauses and the format, and every line of its proof, as text or in binary, with the definition of DRAT. Before
 that, a damaged proof and a wrong model are tried, which must be caught. Real files that fail, refused words, refused inputs and a table with too few words bring
 the program to each status but 9, and each time the folder that it runs in must have no file but those that were to be there.
@@ -122,6 +122,18 @@ def colouring(rng):
             if rng.random() < 0.7:
                 clauses += [[-(3 * n + c), -(3 * m + c)] for c in (1, 2, 3)]
     return 3 * nodes, clauses
+
+
+def at_most_one(rng):
+    """At most one of some literals is true, said pair by pair, and each of them stands in two other clauses or three."""
+    some, others = rng.randint(5, 9), rng.randint(4, 7)
+    literals = [v if rng.random() < 0.5 else -v for v in range(1, some + 1)]
+    clauses = [[-a, -b] for place, a in enumerate(literals) for b in literals[:place]]
+    for literal in literals:
+        for _ in range(rng.randint(2, 3)):
+            rest = rng.sample(range(some + 1, some + others + 1), 2)
+            clauses.append([literal] + [v if rng.random() < 0.5 else -v for v in rest])
+    return some + others, clauses
 
 
 def is_satisfiable(variables, clauses):
@@ -321,11 +333,11 @@ def check_answer(variables, clauses, status, out, err, proof, satisfiable, check
 
 class Options:
     """How the program is to decide: by how many rings, with how many words for clauses, slots for each two rings and class, and
-    lemmas for each ring, from which seed, whether it simplifies and checks its log, and whether the proof is in binary. None
-    leaves an option out."""
+    lemmas for each ring, from which seed, whether it simplifies, may add variables and checks its log, and whether the proof is in
+    binary. None leaves an option out."""
 
     def __init__(self, rng, simplified):
-        self.simplified, self.checked, self.binary = simplified, rng.random() < 0.5, rng.random() < 0.5
+        self.simplified, self.checked, self.binary, self.adds = simplified, rng.random() < 0.5, rng.random() < 0.5, rng.random() < 0.5
         self.numbers = {
             "--threads": rng.choice([1, 2, 4, 8, 16]),
             "--words": rng.choice([64, 256, 1024] + [65536] * 6) if rng.random() < 0.95 else None,
@@ -336,12 +348,18 @@ class Options:
 
     def words(self):
         named = [word for name, number in self.numbers.items() if number is not None for word in (name, str(number))]
-        flags = {"--check": self.checked, "--binary": self.binary, "--no-simplify": not self.simplified}
+        flags = {"--check": self.checked, "--binary": self.binary, "--add": self.adds, "--no-simplify": not self.simplified}
         return named + [flag for flag, is_used in flags.items() if is_used]
 
 
+def has_more_variables(variables, proof, binary):
+    """Whether a line of the proof names a variable that the formula doesn't have."""
+    lines = binary_lines(proof) if binary else text_lines(proof)
+    return any(abs(literal) > variables for _, literals in lines for literal in literals)
+
+
 def run(program, folder, variables, clauses, satisfiable, text, from_file, options):
-    """Runs the program on the text, as a file or on standard input."""
+    """Runs the program on the text, as a file or on standard input. Answers whether it added a variable."""
     path = os.path.join(folder, "proof")
     words = [program, "--proof", path] + options.words()
     if from_file:
@@ -371,6 +389,10 @@ def run(program, folder, variables, clauses, satisfiable, text, from_file, optio
         options.numbers["--words"] is not None,
         options.binary,
     )
+    more = has_more_variables(variables, proof, options.binary)
+    if more and not (options.adds and options.simplified):
+        raise Wrong("a variable is added, and that was not asked for")
+    return more
 
 
 class Case:
@@ -407,6 +429,7 @@ def statuses():
         "--make 9223372036854775808",
         "--check --check",
         "--binary --binary",
+        "--add --add",
         "--seed -1",
         "--seed 9223372036854775808",
     ]:
@@ -446,6 +469,7 @@ def statuses():
     yield Case(8, ["--no-simplify", "--words", "64"], chain, stderr="gimsatul: no room: need 5, largest hole 4\n")
     yield Case(10, [], MODEL, stdout="s SATISFIABLE\nv -1 2 0\n")
     yield Case(20, ["input"], MODEL, REFUTED, stdout="s UNSATISFIABLE\n", here=["input"])
+    yield Case(20, ["--add", "--check", "input"], MODEL, pigeonhole, stdout=accepted + "s UNSATISFIABLE\n", here=["input"])
     yield Case(20, ["--binary", "--proof", "proof"], REFUTED, stdout="s UNSATISFIABLE\n", here=["proof"])
     yield Case(7, ["--binary", "--proof", FULL], REFUTED, stderr="gimsatul: proof fault\n")
 
@@ -530,7 +554,7 @@ def cases(rng):
     for _ in range(RANDOM_FORMULAS):
         variables, clauses = random_formula(rng)
         yield variables, clauses, is_satisfiable(variables, clauses)
-    for make in [equivalences, gates, colouring]:
+    for make in [equivalences, gates, colouring, at_most_one]:
         for _ in range(STRUCTURED_FORMULAS):
             variables, clauses = make(rng)
             yield variables, clauses, is_satisfiable(variables, clauses)
@@ -550,7 +574,7 @@ def main():
         print("crosscheck: skipped, the program is not built")
         return 0
     try_itself()
-    tried = wrong = 0
+    tried = wrong = more = 0
     start = time.monotonic()
     rng = random.Random(SEED)
     for case in statuses():
@@ -571,12 +595,12 @@ def main():
             for simplified in [True, False]:
                 options = Options(rng, simplified)
                 try:
-                    run(program, folder, variables, clauses, satisfiable, text, rng.random() < 0.5, options)
+                    more += run(program, folder, variables, clauses, satisfiable, text, rng.random() < 0.5, options)
                 except Wrong as fault:
                     wrong += 1
                     print("wrong: %s: %s\n%s" % (" ".join(options.words()), fault, text.decode("ascii")))
-    print("crosscheck: %d tried, %d wrong" % (tried, wrong))
-    return 1 if wrong else 0
+    print("crosscheck: %d tried, %d wrong; %d runs added variables" % (tried, wrong, more))
+    return 1 if wrong or not more else 0
 
 
 if __name__ == "__main__":

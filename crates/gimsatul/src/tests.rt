@@ -38,6 +38,8 @@ struct Row {
     /// None if no proof's writer may be there; its bytes are compared if `compares_proof` says so.
     proof: Option<&'static [u8]>,
     compares_proof: bool,
+    /// What the proof begins with.
+    front: &'static [u8],
     /// Whether the proof's last line is the empty clause, and no other line is.
     ends_log: bool,
     /// Whether all that the proof's writer took was flushed, else none of it.
@@ -71,6 +73,7 @@ const PLAIN: Row = Row {
     opened: false,
     proof: Some(b""),
     compares_proof: true,
+    front: b"",
     ends_log: false,
     flushes_proof: true,
     left: b"",
@@ -168,6 +171,7 @@ fn empty_lines(bytes: &[u8], binary: bool) -> (u64, bool) {
 fn check_writer(rt: &impl Abort, row: &Row, wanted: &[u8], writer: &MemSink<'_>) {
     let taken = writer.bytes();
     assert!(rt; !row.compares_proof || is_same(taken, wanted));
+    assert!(rt; taken.starts_with(row.front));
     if row.ends_log {
         let binary = row.words.contains(&"--binary");
         assert_eq!(rt; empty_lines(taken, binary), (1, true));
@@ -707,7 +711,7 @@ fn words_that_are_refused(rt: HostRuntime) -> Result<(), Fail> {
         proof: None,
         ..PLAIN
     };
-    let table: [&[&str]; 30] = [
+    let table: [&[&str]; 31] = [
         &["--seed", "-1"],
         &["--seed", "9223372036854775808"],
         &["--seed", "1", "--seed", "1"],
@@ -718,6 +722,7 @@ fn words_that_are_refused(rt: HostRuntime) -> Result<(), Fail> {
         &["--make", "9223372036854775808"],
         &["--check", "--check"],
         &["--binary", "--binary"],
+        &["--add", "--add"],
         &["--threads", "0"],
         &["--threads", "17"],
         &["--threads", "1", "--threads", "1"],
@@ -748,7 +753,7 @@ fn words_that_are_taken(rt: HostRuntime) -> Result<(), Fail> {
         out: b"s SATISFIABLE\nv 0\n",
         ..MODEL
     };
-    let table: [&[&str]; 10] = [
+    let table: [&[&str]; 12] = [
         &["--seed", "9223372036854775807"],
         &["--walk", "1000000000"],
         &["--slots", "1"],
@@ -758,6 +763,8 @@ fn words_that_are_taken(rt: HostRuntime) -> Result<(), Fail> {
         &["--threads", "04"],
         &["--conflicts", "1000000000000"],
         &["--no-simplify", "--conflicts=+07"],
+        &["--add"],
+        &["--add", "--no-simplify"],
         &["--"],
     ];
     check_words(&rt, row, &table)?;
@@ -1064,6 +1071,17 @@ fn checked_logs(rt: HostRuntime) -> Result<(), Fail> {
             compares_learned: false,
             ..PLAIN
         },
+        // The ruler may add variables.
+        Row {
+            words: &["--add", "--check"],
+            input: PIGEONS,
+            status: 20,
+            out: b"c proof accepted\ns UNSATISFIABLE\n",
+            compares_proof: false,
+            learned: &[0, 0, 0, 0],
+            compares_learned: false,
+            ..PLAIN
+        },
         // Four rings, whose lines are of one log.
         Row {
             words: &["--threads", "4", "--no-simplify", "--check"],
@@ -1090,6 +1108,35 @@ fn checked_logs(rt: HostRuntime) -> Result<(), Fail> {
         check_row(&rt, *row, 65536)?;
     }
     Ok(())
+}
+
+/// On five variables, with one model: 1 and 2 have three common sets, and no other simplifier finds anything to do.
+const COMMON: &[u8] =
+    b"p cnf 5 15\n1 -3 -4 0\n1 -4 -5 0\n1 3 4 0\n2 -3 -4 0\n2 -4 -5 0\n2 3 4 0\n2 -3 -5 0\n-1 -2 -4 0\n1 -2 5 0\n-2 4 -5 0\n-3 4 -5 0\n-1 2 3 0\n-1 4 5 0\n1 3 -5 0\n1 -3 5 0\n";
+
+/// A variable is added if that is asked for. The proof begins with its clauses, and the model has no value for it.
+#[test]
+fn a_variable_is_added(rt: HostRuntime) -> Result<(), Fail> {
+    let row = Row {
+        words: &["--threads", "1", "--add", "--check", "--proof", "P"],
+        input: COMMON,
+        out: b"c proof accepted\ns SATISFIABLE\nv -1 -2 -3 4 -5 0\n",
+        compares_proof: false,
+        front: b"6 1 0\n6 2 0\n-6 -3 -4 0\n-6 -4 -5 0\n-6 3 4 0\nd ",
+        learned: &[0],
+        compares_learned: false,
+        ..PLAIN
+    };
+    let binary = Row {
+        words: &["--add", "--binary", "--proof", "P"],
+        out: b"s SATISFIABLE\nv -1 -2 -3 4 -5 0\n",
+        front: &[
+            97, 12, 2, 0, 97, 12, 4, 0, 97, 13, 7, 9, 0, 97, 13, 9, 11, 0, 97, 13, 6, 8, 0, 100,
+        ],
+        learned: &[0, 0, 0, 0],
+        ..row
+    };
+    check_rows(&rt, &[row, binary])
 }
 
 /// Two rings write one log, which ends in the empty clause and has it once.

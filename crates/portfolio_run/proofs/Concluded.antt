@@ -65,13 +65,13 @@ two_or_more (suc zero) le other = absurd (other refl)
 two_or_more (suc (suc n)) le other = omega arith
 
 -- in both cases the passes are gathered
-pub gathered_of : {B : Type 0} (t : Shared B) (v : View) (home : List ℕ) (plan : Plan) (left : Simplified) (p : Seat (Option B) View) (before tally : List Counts) (answer : Answer) → HasSearched t v home plan left.stack p before tally answer → IsGathered t v p
-gathered_of t v home plan left p before tally answer (inl h) = h.run.gathered
-gathered_of t v home plan left p before tally answer (inr h) = h.rested.gathered
+pub gathered_of : {B : Type 0} (t : Shared B) (v : View) (home : List ℕ) (plan : Plan) (vars : ℕ) (left : Simplified) (p : Seat (Option B) View) (before tally : List Counts) (answer : Answer) → HasSearched t v home plan vars left.stack p before tally answer → IsGathered t v p
+gathered_of t v home plan vars left p before tally answer (inl h) = h.run.gathered
+gathered_of t v home plan vars left p before tally answer (inr h) = h.rested.gathered
 
 module _ {S : Type 0} {d : Ghosts S} (written flushed target : S → Option (List ℕ)) (faults : S → ℕ) (sink : S) (plan : Plan) (F : FormulaData) (old : Book S d) (left : Simplified) (l : Layout) (origin : BookOrigin)
     (few : F.vars ≤ 2 ^ 30) (on : All (All (IsOn F.vars)) F.clauses) (some_conflicts : 1 ≤ plan.conflicts) (some_ring : 1 ≤ plan.threads) (few_rings : plan.threads ≤ 16)
-    (was : WasRuled written flushed target faults sink plan F old (Ok (LeftOver left))) (rings_are : l.rings ≡ plan.threads) (vars_are : l.vars ≡ F.vars) (depth_is : l.depth ≡ plan.slots)
+    (was : WasRuled written flushed target faults sink plan F old (Ok (LeftOver left))) (rings_are : l.rings ≡ plan.threads) (vars_are : l.vars ≡ left.vars) (depth_is : l.depth ≡ plan.slots)
     (format_is : origin.format ≡ plan.format) (faults_are : origin.faults ≡ faults sink) (target_is : origin.target ≡ target sink) (keeps_are : origin.keeps ≡ plan.keep_lines)
     (t : Shared (Book S d)) (home : List ℕ) (p : Seat (Option (Book S d)) View) (tally : List Counts) (answer : Answer)
     (b : Book S d) (s : Seen p.me.0) (fault : Bool) (stands : StandsFor account_of (IsLogOf written flushed target faults) b p.me.0.origin p.me.0.layout p.me.0.opening s.core.journal fault) (tells : TellsFaults p.me.0.parts fault) where
@@ -81,9 +81,9 @@ module _ {S : Type 0} {d : Ghosts S} (written flushed target : S → Option (Lis
   few_rings_there : plan.threads ≤ RULER_RING
   few_rings_there = few_rings
 
-  module _ (searched : HasSearched t v home plan left.stack p (replicate plan.threads no_counts) tally answer) where
+  module _ (searched : HasSearched t v home plan F.vars left.stack p (replicate plan.threads no_counts) tally answer) where
     gathered : IsGathered t v p
-    gathered = gathered_of t v home plan left p (replicate plan.threads no_counts) tally answer searched
+    gathered = gathered_of t v home plan F.vars left p (replicate plan.threads no_counts) tally answer searched
 
     abbrev K : List Entry
     K = entries written flushed target faults sink plan F old left l origin few on some_conflicts some_ring few_rings_there was rings_are vars_are depth_is p.me.0 gathered.same s
@@ -121,12 +121,12 @@ module _ {S : Type 0} {d : Ghosts S} (written flushed target : S → Option (Lis
         subst (λ (x : Answer). IsDecided plan F x tally Failed Calm s.core.journal) (sym h.is)
         (starved plan F left l origin was.ruled.journal K p.me.0 s g Failed Calm (calm_idle h.rested) tally h.tally_is (idle_at h.rested))
 
-    by_ends : (h : HasRunTo t v home plan left.stack p tally answer) → AllSpent h.ends answer ⊎ WasWon p.me.0 left.stack h.ends answer → IsDecided plan F answer tally Failed Calm s.core.journal
+    by_ends : (h : HasRunTo t v home plan F.vars left.stack p tally answer) → AllSpent h.ends answer ⊎ WasWon p.me.0 F.vars left.stack h.ends answer → IsDecided plan F answer tally Failed Calm s.core.journal
     by_ends h (inl spent) = decided_spent plan F left l origin was.ruled.journal K p.me.0 s g home h.ends (h.run.many ∙ rings_are) h.run.ran tally h.tally_is Failed fault tells (h.run.gathered.many ∙ rings_are) answer spent
     by_ends h (inr won) =
         decided_won plan F left l origin was.ruled.journal K p.me.0 s g home h.ends (h.run.many ∙ rings_are) h.run.ran tally h.tally_is Failed fault (λ e. stands.faulty ∙ e) tells (h.run.gathered.many ∙ rings_are) answer won
 
-    by_search : HasSearched t v home plan left.stack p (replicate plan.threads no_counts) tally answer → IsDecided plan F answer tally Failed Calm s.core.journal
+    by_search : HasSearched t v home plan F.vars left.stack p (replicate plan.threads no_counts) tally answer → IsDecided plan F answer tally Failed Calm s.core.journal
     by_search (inl h) = by_ends h h.decided
     by_search (inr h) = by_starved h
 
@@ -165,6 +165,6 @@ module _ {S : Type 0} {d : Ghosts S} (written flushed target : S → Option (Lis
         }
 
   -- over a table whose first pass knew no more than what it was opened with, if nothing was counted before
-  pub concluded : (u : View) (before : List Counts) → u ≡ v → before ≡ replicate plan.threads no_counts → HasSearched t u home plan left.stack p before tally answer → HasReached written flushed target faults sink plan F answer tally b
+  pub concluded : (u : View) (before : List Counts) → u ≡ v → before ≡ replicate plan.threads no_counts → HasSearched t u home plan F.vars left.stack p before tally answer → HasReached written flushed target faults sink plan F answer tally b
   concluded u before is none searched =
-      has_reached (subst (λ (cs : List Counts). HasSearched t v home plan left.stack p cs tally answer) none (subst (λ (x : View). HasSearched t x home plan left.stack p before tally answer) is searched))
+      has_reached (subst (λ (cs : List Counts). HasSearched t v home plan F.vars left.stack p cs tally answer) none (subst (λ (x : View). HasSearched t x home plan F.vars left.stack p before tally answer) is searched))

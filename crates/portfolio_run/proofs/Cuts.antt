@@ -1,15 +1,15 @@
 -- A writer that has a front of the bytes of lines.
-use Rattle.std.proofs.Common.{◌≡◌, ◌∙◌, ◌^◌, ℕ, zero, suc, true, false, List, [], ◌∷◌, ◌++◌, Some, None, refl, sym, ap, subst, arith, append_assoc, append-nil}
+use Rattle.std.proofs.Common.{◌≡◌, ◌∙◌, ℕ, zero, suc, true, false, List, [], ◌∷◌, ◌++◌, Some, None, refl, sym, ap, subst, arith, append_assoc, append-nil}
 use Rattle.std.specs.Prelude.{All}
 use Rattle.std.specs.declared.option.Option.{Option}
 use Rattle.std.specs.Io.KnownBytes.{append_known}
 use Rattle.std.proofs.lemmas.List.Elements.{All-append}
 use Rattle.io_edge.specs.Bytes.{IsFront}
 use Rattle.io_edge.proofs.Growth.{append_known-append}
-use Rattle.sat_words.specs.Literal.{Literal, IsOn}
+use Rattle.sat_words.specs.Literal.{Literal}
 use Rattle.sat_words.specs.declared.line.Line.{Line}
 use Rattle.sat_words.specs.declared.line.Line.TheVariants.{Add as AddLine}
-use Rattle.rup_model.specs.Log.{Accepted, alive, is_valid, lits_of}
+use Rattle.rup_model.specs.Log.{Accepted, alive, is_valid}
 use Rattle.rup_model.specs.Rup.{rup}
 use Rattle.rup_model.specs.Journal.{lines}
 use Rattle.rup_model.specs.declared.journal.Entry.{Entry}

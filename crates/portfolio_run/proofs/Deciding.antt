@@ -39,7 +39,7 @@ use Rattle.portfolio_run.specs.Ends.{set_of}
 use Rattle.portfolio_run.specs.Held.{IsProgramOpening, IsTallied, RanOnce, IsHeld, HasStop, no_counts}
 use Rattle.portfolio_run.specs.Journaled.{IsJournal, IsUnrefuted}
 use Rattle.portfolio_run.specs.Reached.{RanAt}
-use Rattle.portfolio_run.specs.Ruled.{IsRuledThrough}
+use Rattle.portfolio_run.specs.Ruled.{schedule_of, IsRuledThrough}
 use Rattle.portfolio_run.specs.Searched.{answer_of, AllSpent, WasWon}
 use Rattle.portfolio_run.specs.Solved.{Holds, IsUnsettled, kind_of}
 use Rattle.portfolio_run.proofs.Gathered.{GoesOn, began_with}
@@ -49,12 +49,13 @@ use Rattle.portfolio_run.proofs.Placing.{placed_own}
 use Rattle.portfolio_run.proofs.RingsJournal.{HasWritten, AreTogether, ruler_is, rings_is, journal_stands, learned_there, spent_all, unsettled, refutation}
 use Rattle.portfolio_run.proofs.RingsRun.{starts_from, port, has_written, learned_many, tallied, ended_is, cause, faulty, spent_is, fewer, unrefuted, calm}
 use Rattle.portfolio_run.proofs.Behind.{IsAlike}
+use Rattle.portfolio_run.proofs.Spelling.{wider}
 
 -- the answer holds over this journal, whose first part the ruler wrote; the first of these says what is so if it is a fault of the
 -- proof, the second what is so of a lone ring at each other answer
 pub record IsDecided (plan : Plan) (F : FormulaData) (answer : Answer) (tally : List Counts) (Failed Calm : Type 0) (J : List Entry) : Type 0 where
   pub stands : IsJournal plan.threads F.clauses J
-  pub ruled : IsRuledThrough F plan.rounds J
+  pub ruled : IsRuledThrough F (schedule_of plan) J
   pub held : IsHeld plan.threads plan.slots plan.conflicts F.clauses J tally
   pub stop : HasStop held (kind_of answer)
   pub holds : Holds plan F J answer
@@ -65,6 +66,10 @@ module _ (plan : Plan) (F : FormulaData) (left : Simplified) (l : Layout) (origi
   abbrev J : List Entry
   J = J0 ++ K
 
+  -- the formula, on the variables that are left
+  abbrev wide : FormulaData
+  wide = record { vars = left.vars; clauses = F.clauses }
+
   -- the table as it was opened
   abbrev v : View
   v = first_view l (began_with F l J0 left) origin
@@ -72,10 +77,10 @@ module _ (plan : Plan) (F : FormulaData) (left : Simplified) (l : Layout) (origi
   alike_there : IsAlike (starts_from v) (program_opening F.clauses J0)
   alike_there = alike F J0 left g.left_is (start_glues (starts_at (first_cell l) left.start.items)) (first_cell l)
 
-  together : ((r : ℕ) → r < plan.threads → HasWritten F.vars (starts_from v) r (own r K)) → AreTogether F J0 K plan.threads (starts_from v)
+  together : ((r : ℕ) → r < plan.threads → HasWritten left.vars (starts_from v) r (own r K)) → AreTogether wide J0 K plan.threads (starts_from v)
   together each = record {
     few = g.few;
-    on = g.on;
+    on = wider F.vars left.vars g.more F.clauses g.on;
     few_rings = g.few_rings;
     rulers = g.rulers;
     on_ruler = g.on_ruler;
@@ -88,23 +93,23 @@ module _ (plan : Plan) (F : FormulaData) (left : Simplified) (l : Layout) (origi
 
   -- No ring wrote anything
 
-  nothing_written : (r : ℕ) → own r K ≡ [] → HasWritten F.vars (starts_from v) r (own r K)
-  nothing_written r none = subst (HasWritten F.vars (starts_from v) r) (sym none) (record { wrote = λ k d lt. absurd (omega arith); each_new = tt; spaced = tt })
+  nothing_written : (r : ℕ) → own r K ≡ [] → HasWritten left.vars (starts_from v) r (own r K)
+  nothing_written r none = subst (HasWritten left.vars (starts_from v) r) (sym none) (record { wrote = λ k d lt. absurd (omega arith); each_new = tt; spaced = tt })
 
   pub starved : (Failed Calm : Type 0) → (plan.threads ≡ 1 → Calm) → (tally : List Counts) → tally ≡ replicate plan.threads no_counts → ((r : ℕ) → r < plan.threads → (s.core.part r).wrote ≡ []) → IsDecided plan F Memory tally Failed Calm s.core.journal
   starved Failed Calm calm tally none idle =
       let own_none : (r : ℕ) → r < plan.threads → own r K ≡ [] = λ r lt. sym (placed_own r (length s.core.opening.journal) K) ∙ ap (map (λ (p : Placed). p.entry)) (sym (g.wrote r lt) ∙ idle r lt) in
-      let t : AreTogether F J0 K plan.threads (starts_from v) = together (λ r lt. nothing_written r (own_none r lt)) in
+      let t : AreTogether wide J0 K plan.threads (starts_from v) = together (λ r lt. nothing_written r (own_none r lt)) in
       let o = starts_from v in
       let threads = plan.threads in
       let some_ring : 0 < plan.threads = let h = g.some_ring in omega (arith, h) in
       let none_there : own 0 K ≡ [] = own_none 0 some_ring in
       subst (IsDecided plan F Memory tally Failed Calm) (sym g.journal_is) (record {
-        stands = journal_stands F J0 K threads o t;
+        stands = journal_stands wide J0 K threads o t;
         ruled = g.through;
-        held = inl (record { rulers = rings_is F J0 K threads o t ∙ none_of plan.threads K g.of_rings own_none; none = inr none });
+        held = inl (record { rulers = rings_is wide J0 K threads o t ∙ none_of plan.threads K g.of_rings own_none; none = inr none });
         stop = (λ e. absurd (let k = some_same STOP_MEMORY STOP_SAT e in omega arith), λ e. none_some STOP_MEMORY (sym e));
-        holds = unsettled F J0 K threads o t plan.conflicts 0 some_ring
+        holds = unsettled wide J0 K threads o t plan.conflicts 0 some_ring
             (let h : length (learned 0 (own 0 K)) ≡ 0 = ap (λ (I : List Entry). length (learned 0 I)) none_there in let k = g.some in omega (arith, h, k))
             (ap (λ (I : List Entry). list_any is_empty (added I)) none_there);
         rose = λ e. cc e;
@@ -143,22 +148,22 @@ module _ (plan : Plan) (F : FormulaData) (left : Simplified) (l : Layout) (origi
     unrefuted_at : (r : ℕ) (lt : r < plan.threads) → list_any is_empty (added (port_at r lt).mine) ≡ false → IsUnrefuted (own r K)
     unrefuted_at r lt = unrefuted v w home plan s r (end_at r) (counts_at r) (ran_at r lt) plan.threads g.rings_are lt K start (g.wrote r lt)
 
-    written_at : (r : ℕ) → r < plan.threads → HasWritten F.vars (starts_from v) r (own r K)
+    written_at : (r : ℕ) → r < plan.threads → HasWritten left.vars (starts_from v) r (own r K)
     written_at r lt =
         subst (λ (n : ℕ). HasWritten n (starts_from v) r (own r K)) g.vars_are
         (has_written v w home plan s r (end_at r) (counts_at r) (ran_at r lt) plan.threads g.rings_are lt K start (g.wrote r lt))
 
-    t : AreTogether F J0 K plan.threads (starts_from v)
+    t : AreTogether wide J0 K plan.threads (starts_from v)
     t = together written_at
 
     tallied_at : (r : ℕ) (d : Counts) → r < plan.threads → IsTallied plan.threads plan.conflicts r s.left.events J (get_or tally r d)
     tallied_at r d lt =
         subst (IsTallied plan.threads plan.conflicts r s.left.events J) (sym (ap (λ (cs : List Counts). get_or cs r d) tally_is ∙ get_or-map (λ (e : End × Counts). e.1) ends r none_ended d (among r lt)))
-        (tallied v w home plan s r (end_at r) (counts_at r) (ran_at r lt) plan.threads g.rings_are lt K start (g.wrote r lt) J (learned_there F J0 K plan.threads (starts_from v) t r))
+        (tallied v w home plan s r (end_at r) (counts_at r) (ran_at r lt) plan.threads g.rings_are lt K start (g.wrote r lt) J (learned_there wide J0 K plan.threads (starts_from v) t r))
 
     program : IsProgramOpening F.clauses (ruler_part J) (opening_of s.core.opening)
     program =
-        subst (λ (I : List Entry). IsProgramOpening F.clauses I (opening_of s.core.opening)) (sym (ruler_is F J0 K plan.threads (starts_from v) t))
+        subst (λ (I : List Entry). IsProgramOpening F.clauses I (opening_of s.core.opening)) (sym (ruler_is wide J0 K plan.threads (starts_from v) t))
         (subst (λ (q : CoreOpening). IsProgramOpening F.clauses J0 (opening_of q)) (sym g.opening_is)
         (record { journal_is = refl; starts = placed_starts (first_cell l) left.start.items ∙ g.left_is.starts; units = g.left_is.units }))
 
@@ -180,7 +185,7 @@ module _ (plan : Plan) (F : FormulaData) (left : Simplified) (l : Layout) (origi
     unfolding ran_once
     decided Failed Calm answer stop holds rose calm =
         subst (IsDecided plan F answer tally Failed Calm) (sym g.journal_is)
-        (record { stands = journal_stands F J0 K plan.threads (starts_from v) t; ruled = g.through; held = inr ran_once; stop = stop; holds = holds; rose = rose; calm = calm })
+        (record { stands = journal_stands wide J0 K plan.threads (starts_from v) t; ruled = g.through; held = inr ran_once; stop = stop; holds = holds; rose = rose; calm = calm })
 
     -- if the ring is alone and its port can be used, no write has failed
     calm_at : (r : ℕ) (lt : r < plan.threads) → plan.threads ≡ 1 → length w.parts ≡ plan.threads → (fault : Bool) → TellsFaults w.parts fault → is_usable (port_at r lt).refused ≡ true → fault ≡ false
@@ -203,7 +208,7 @@ module _ (plan : Plan) (F : FormulaData) (left : Simplified) (l : Layout) (origi
     decided_spent Failed fault tells long answer h =
         decided Failed (fault ≡ false) answer
         (ap (option_map (λ (x : Stop). x.kind)) (unstopped (λ r lt. h.each r none_ended (among r lt)) s.core.stop refl) ∙ ap kind_of (sym h.is))
-        (subst (Holds plan F J) (sym h.is) (spent_all F J0 K plan.threads (starts_from v) t plan.conflicts one))
+        (subst (Holds plan F J) (sym h.is) (spent_all wide J0 K plan.threads (starts_from v) t plan.conflicts one))
         (λ e. (let clash : Unknown ≡ ProofFault = sym h.is ∙ e in absurd (cc clash)))
         (λ threads ne. calm_at 0 (omega (arith, threads)) threads long fault tells (subst (Cause (port_at 0 (omega (arith, threads)))) (h.each 0 none_ended (among 0 (omega (arith, threads)))) (cause_at 0 (omega (arith, threads)))).usable)
       where
@@ -217,7 +222,7 @@ module _ (plan : Plan) (F : FormulaData) (left : Simplified) (l : Layout) (origi
             )
 
     -- the stop that an end sets is of its answer's kind
-    answers_kind : (x : End) → kind_of (answer_of left.stack x) ≡ stop_kind x
+    answers_kind : (x : End) → kind_of (answer_of F.vars left.stack x) ≡ stop_kind x
     answers_kind (end.Sat a) = refl
     answers_kind end.Refuted = refl
     answers_kind end.Spent = refl
@@ -235,20 +240,20 @@ module _ (plan : Plan) (F : FormulaData) (left : Simplified) (l : Layout) (origi
 
       unsettled_by : (x : End) → end_at r ≡ x → (x ≡ end.Spent → ⊥) → list_any is_empty (added (port_at r lt).mine) ≡ false → IsUnsettled plan.threads plan.conflicts J
       unsettled_by x is other none =
-          unsettled F J0 K plan.threads (starts_from v) t plan.conflicts r lt
+          unsettled wide J0 K plan.threads (starts_from v) t plan.conflicts r lt
           (fewer v w home plan s r (end_at r) (counts_at r) (ran_at r lt) plan.threads g.rings_are lt K start (g.wrote r lt) (λ e. other (sym is ∙ e)))
           (unrefuted_at r lt none)
 
-      holds_by : (kind : ℕ) (x : End) → end_at r ≡ x → Cause (port_at r lt) x → stop_kind x ≡ Some kind → Holds plan F J (answer_of left.stack x)
-      holds_by kind (end.Sat a) is c won = model F J0 left g.left_is (start_glues (starts_at (first_cell l) left.start.items)) (first_cell l) a g.left_vars (c.0.long ∙ g.vars_are) c.0.start c.0.opening
-      holds_by kind end.Refuted is c won = refutation F J0 K plan.threads (starts_from v) t g.left_is.going (log_ended c.0)
+      holds_by : (kind : ℕ) (x : End) → end_at r ≡ x → Cause (port_at r lt) x → stop_kind x ≡ Some kind → Holds plan F J (answer_of F.vars left.stack x)
+      holds_by kind (end.Sat a) is c won = model F J0 left g.left_is (start_glues (starts_at (first_cell l) left.start.items)) (first_cell l) a g.more g.on (c.0.long ∙ g.vars_are) c.0.start c.0.opening
+      holds_by kind end.Refuted is c won = refutation wide J0 K plan.threads (starts_from v) t g.left_is.going (log_ended c.0)
       holds_by kind end.Spent is c won = absurd (none_some kind won)
       holds_by kind (end.Stopped x) is c won = absurd (none_some kind won)
       holds_by kind (end.NoHole lack) is c won = (c.1, unsettled_by (end.NoHole lack) is (λ e. cc e) c.2)
       holds_by kind end.ProofFault is c won = tt
       holds_by kind end.Memory is c won = unsettled_by end.Memory is (λ e. cc e) c.1
 
-      rose_by : (fault : Bool) → TellsFaults w.parts fault → (x : End) → Cause (port_at r lt) x → answer_of left.stack x ≡ ProofFault → fault ≡ true
+      rose_by : (fault : Bool) → TellsFaults w.parts fault → (x : End) → Cause (port_at r lt) x → answer_of F.vars left.stack x ≡ ProofFault → fault ≡ true
       rose_by fault tells (end.Sat a) c e = absurd (cc e)
       rose_by fault tells end.Refuted c e = absurd (cc e)
       rose_by fault tells end.Spent c e = absurd (cc e)
@@ -268,10 +273,10 @@ module _ (plan : Plan) (F : FormulaData) (left : Simplified) (l : Layout) (origi
       usable_by kind end.Memory c won ne = c.0
 
     -- the stop that stands is a ring's, whose end counts
-    pub decided_won : (Failed : Type 0) (fault : Bool) → (fault ≡ true → Failed) → TellsFaults w.parts fault → length w.parts ≡ plan.threads → (answer : Answer) → WasWon w left.stack ends answer → IsDecided plan F answer tally Failed (fault ≡ false) s.core.journal
+    pub decided_won : (Failed : Type 0) (fault : Bool) → (fault ≡ true → Failed) → TellsFaults w.parts fault → length w.parts ≡ plan.threads → (answer : Answer) → WasWon w F.vars left.stack ends answer → IsDecided plan F answer tally Failed (fault ≡ false) s.core.journal
     decided_won Failed fault fails tells long answer h =
         let lt : h.ring < plan.threads = let below = h.won.below in omega (arith, below, many) in
-        let is : answer ≡ answer_of left.stack (end_at h.ring) = h.is none_ended in
+        let is : answer ≡ answer_of F.vars left.stack (end_at h.ring) = h.is none_ended in
         let kind_is : kind_of answer ≡ Some h.won.kind = ap kind_of is ∙ answers_kind (end_at h.ring) ∙ h.won.decided none_ended in
         decided Failed (fault ≡ false) answer
         (ap (option_map (λ (x : Stop). x.kind)) (s.stops.stands (record { kind = h.won.kind; ring = h.ring }) h.won.stop) ∙ sym (h.won.decided none_ended) ∙ sym (answers_kind (end_at h.ring)) ∙ ap kind_of (sym is))

@@ -30,7 +30,7 @@ use Rattle.ruler_simp.specs.Rounds.{SimplifiedTo}
 use Rattle.ruler_simp.specs.Ruled.{IsAnswer, IsSimplified}
 use Rattle.portfolio_run.specs.declared.plan.Plan.{Plan}
 use Rattle.portfolio_run.specs.Reached.{Records, WasRuled}
-use Rattle.portfolio_run.specs.Ruled.{without_additions, IsRuled, IsRuledThrough}
+use Rattle.portfolio_run.specs.Ruled.{schedule_of, IsRuled, IsRuledThrough}
 use Rattle.portfolio_run.specs.Seats.{IsSameTable}
 use Rattle.portfolio_run.proofs.Placing.{same_rest}
 use Rattle.portfolio_run.proofs.Rulers.{AreRulers}
@@ -42,19 +42,19 @@ began_with F l J0 left = begun_with F.clauses l J0 left.start.items left.units.i
 -- a small plan and formula, which the ruler has simplified, writing the front of a journal; the core was opened with what is left
 -- of it, and its journal goes on with the entries of the rings, each if its ring has it
 pub record GoesOn (plan : Plan) (F : FormulaData) (left : Simplified) (l : Layout) (J0 K : List Entry) (w : View) (s : Seen w) : Type 0 where
-  pub few : F.vars ≤ 2 ^ 30
+  pub more : F.vars ≤ left.vars
+  pub few : left.vars ≤ 2 ^ 30
   pub on : All (All (IsOn F.vars)) F.clauses
   pub some : 1 ≤ plan.conflicts
   pub some_ring : 1 ≤ plan.threads
   pub few_rings : plan.threads ≤ RULER_RING
   pub rings_are : l.rings ≡ plan.threads
-  pub vars_are : l.vars ≡ F.vars
+  pub vars_are : l.vars ≡ left.vars
   pub depth_is : l.depth ≡ plan.slots
   pub rulers : AreRulers J0
-  pub on_ruler : All (All (IsOn F.vars)) (added J0)
+  pub on_ruler : All (All (IsOn left.vars)) (added J0)
   pub left_is : IsSimplified F J0 left
-  pub left_vars : left.vars ≡ F.vars
-  pub through : IsRuledThrough F plan.rounds (J0 ++ K)
+  pub through : IsRuledThrough F (schedule_of plan) (J0 ++ K)
   pub opening_is : s.core.opening ≡ began_with F l J0 left
   pub journal_is : s.core.journal ≡ J0 ++ K
   pub of_rings : All (λ e. ring_of e < plan.threads) K
@@ -63,7 +63,7 @@ pub record GoesOn (plan : Plan) (F : FormulaData) (left : Simplified) (l : Layou
 
 module _ {S : Type 0} {d : Ghosts S} (written flushed target : S → Option (List ℕ)) (faults : S → ℕ) (sink : S) (plan : Plan) (F : FormulaData) (old : Book S d) (left : Simplified) (l : Layout) (origin : BookOrigin)
     (few : F.vars ≤ 2 ^ 30) (on : All (All (IsOn F.vars)) F.clauses) (some : 1 ≤ plan.conflicts) (some_ring : 1 ≤ plan.threads) (few_rings : plan.threads ≤ RULER_RING)
-    (was : WasRuled written flushed target faults sink plan F old (Ok (LeftOver left))) (rings_are : l.rings ≡ plan.threads) (vars_are : l.vars ≡ F.vars) (depth_is : l.depth ≡ plan.slots)
+    (was : WasRuled written flushed target faults sink plan F old (Ok (LeftOver left))) (rings_are : l.rings ≡ plan.threads) (vars_are : l.vars ≡ left.vars) (depth_is : l.depth ≡ plan.slots)
     (w : View) (same : IsSameTable (first_view l (began_with F l was.ruled.journal left) origin) w) (s : Seen w) where
   abbrev J0 : List Entry
   J0 = was.ruled.journal
@@ -107,7 +107,7 @@ module _ {S : Type 0} {d : Ghosts S} (written flushed target : S → Option (Lis
   ruler_is : ruler_part (J0 ++ entries) ≡ J0
   ruler_is = ruler_part-append J0 entries rulers (λ k e lt. (let h = of_rings k e lt in omega (arith, h)))
 
-  ruled : IsRuled F plan.rounds (J0 ++ entries)
+  ruled : IsRuled F (schedule_of plan) (J0 ++ entries)
   ruled = record {
     output = first;
     unspent = refl;
@@ -115,17 +115,25 @@ module _ {S : Type 0} {d : Ghosts S} (written flushed target : S → Option (Lis
     last = refl;
     work = was.ruled.work;
     result = Ok Done;
-    ran = subst (SimplifiedTo (without_additions plan.rounds) (begun F first) was.ruled.work (Ok Done)) (sym ruler_is) was.ruled.ran;
+    ran = subst (SimplifiedTo (schedule_of plan) (begun F first) was.ruled.work (Ok Done)) (sym ruler_is) was.ruled.ran;
     alone = λ other. absurd (other refl);
   }
 
-  through : IsRuledThrough F plan.rounds (J0 ++ entries)
+  through : IsRuledThrough F (schedule_of plan) (J0 ++ entries)
   unfolding ruled
   through = record { ruled = ruled; through = λ why e. cc e }
 
+  -- the variables that are left are those of the work
+  work_vars : was.ruled.work.vars ≡ left.vars
+  work_vars = sym was.ruled.has_vars
+
+  few_left : left.vars ≤ 2 ^ 30
+  few_left = subst (λ (n : ℕ). n ≤ 2 ^ 30) work_vars (was.ruled.few few)
+
   pub goes_on : GoesOn plan F left l J0 entries w s
   goes_on = record {
-    few = few;
+    more = subst (λ (n : ℕ). F.vars ≤ n) work_vars was.ruled.more;
+    few = few_left;
     on = on;
     some = some;
     some_ring = some_ring;
@@ -134,9 +142,8 @@ module _ {S : Type 0} {d : Ghosts S} (written flushed target : S → Option (Lis
     vars_are = vars_are;
     depth_is = depth_is;
     rulers = rulers;
-    on_ruler = subst (λ (n : ℕ). All (All (IsOn n)) (added J0)) (was.ruled.vars refl) was.ruled.stands.on;
+    on_ruler = subst (λ (n : ℕ). All (All (IsOn n)) (added J0)) work_vars was.ruled.stands.on;
     left_is = answered.0;
-    left_vars = was.ruled.has_vars ∙ was.ruled.vars refl;
     through = through;
     opening_is = opening_is;
     journal_is = journal_is;
@@ -150,11 +157,11 @@ module _ {S : Type 0} {d : Ghosts S} (written flushed target : S → Option (Lis
       → StandsFor account_of (IsLogOf written flushed target faults) b w.origin w.layout w.opening s.core.journal fault → Records written flushed target faults plan.format sink F.clauses s.core.journal b
   records b fault format_is faults_are target_is h =
       let formula_is : w.opening.formula ≡ F.clauses = ap (λ (o : CoreOpening). o.formula) same.opening in
-      let vars_there : w.layout.vars ≡ F.vars = ap (λ (m : Layout). m.vars) same.layout ∙ vars_are in
+      let vars_there : w.layout.vars ≡ left.vars = ap (λ (m : Layout). m.vars) same.layout ∙ vars_are in
       record {
         origin = w.origin;
         layout = w.layout;
-        few = omega (arith, vars_there);
+        few = subst (λ (n : ℕ). n ≤ 2 ^ 30) (sym vars_there) few_left;
         format_is = ap (λ (x : BookOrigin). x.format) same.origin ∙ format_is;
         faults_are = ap (λ (x : BookOrigin). x.faults) same.origin ∙ faults_are;
         target_is = ap (λ (x : BookOrigin). x.target) same.origin ∙ target_is;

@@ -220,25 +220,25 @@ run_looked t v home plan p q ends rest same parts ends_are h = record {
 -- Models
 
 -- a model is as long as the table has variables
-mended_end : (s : PortState) (e : End) (stack : List Fix) → Ends s e → All (λ (fix : Fix). fix.lit.var ≤ s.vars) stack → IsMended stack e
-mended_end s (Sat a) stack h fits = subst (λ (n : ℕ). All (λ (fix : Fix). fix.lit.var ≤ n) stack) (sym h.cause.0.long) fits
-mended_end s Refuted stack h fits = tt
-mended_end s Spent stack h fits = tt
-mended_end s (Stopped x) stack h fits = tt
-mended_end s (NoHole x) stack h fits = tt
-mended_end s ProofFault stack h fits = tt
-mended_end s Memory stack h fits = tt
+mended_end : (s : PortState) (e : End) (vars : ℕ) (stack : List Fix) → Ends s e → vars ≤ s.vars → All (λ (fix : Fix). fix.lit.var ≤ s.vars) stack → IsMended vars stack e
+mended_end s (Sat a) vars stack h more fits = (subst (λ (n : ℕ). vars ≤ n) (sym h.cause.0.long) more, subst (λ (n : ℕ). All (λ (fix : Fix). fix.lit.var ≤ n) stack) (sym h.cause.0.long) fits)
+mended_end s Refuted vars stack h more fits = tt
+mended_end s Spent vars stack h more fits = tt
+mended_end s (Stopped x) vars stack h more fits = tt
+mended_end s (NoHole x) vars stack h more fits = tt
+mended_end s ProofFault vars stack h more fits = tt
+mended_end s Memory vars stack h more fits = tt
 
-pub mended_ends : {B : Type 0} (t : Shared B) (v : View) (home : List ℕ) (plan : Plan) (p : Seat (Option B) View) (ends : List (End × Counts)) (stack : List Fix) → v.layout ≡ t.layout → All (λ (fix : Fix). fix.lit.var ≤ t.layout.vars) stack → HaveRun t v home plan p ends → All (λ (e : End × Counts). IsMended stack e.0) ends
-mended_ends t v home plan p ends stack lay fits h = λ i d lt.
+pub mended_ends : {B : Type 0} (t : Shared B) (v : View) (home : List ℕ) (plan : Plan) (p : Seat (Option B) View) (ends : List (End × Counts)) (vars : ℕ) (stack : List Fix) → v.layout ≡ t.layout → vars ≤ t.layout.vars → All (λ (fix : Fix). fix.lit.var ≤ t.layout.vars) stack → HaveRun t v home plan p ends → All (λ (e : End × Counts). IsMended vars stack e.0) ends
+mended_ends t v home plan p ends vars stack lay more fits h = λ i d lt.
     let r = h.ran i d lt in
-    mended_end (port_with (record v { stop = r.seen; looks = r.ran.looks }) r.part r.ran.own) (get_or ends i d).0 stack r.ran.ran.ends (subst (λ (l : Layout). All (λ (fix : Fix). fix.lit.var ≤ l.vars) stack) (sym lay) fits)
+    mended_end (port_with (record v { stop = r.seen; looks = r.ran.looks }) r.part r.ran.own) (get_or ends i d).0 vars stack r.ran.ran.ends (subst (λ (l : Layout). vars ≤ l.vars) (sym lay) more) (subst (λ (l : Layout). All (λ (fix : Fix). fix.lit.var ≤ l.vars) stack) (sym lay) fits)
 
 -- Answers
 
 -- what the rings of the same table ran to
-pub ran_to_same : {B : Type 0} (t : Shared B) (u v : View) (home name : List ℕ) (plan : Plan) (stack : List Fix) (p : Seat (Option B) View) (tally : List Counts) (answer : Answer) → IsSameTable u v → name ≡ home → HasRunTo t v name plan stack p tally answer → HasRunTo t u home plan stack p tally answer
-ran_to_same t u v home name plan stack p tally answer same named h = record {
+pub ran_to_same : {B : Type 0} (t : Shared B) (u v : View) (home name : List ℕ) (plan : Plan) (vars : ℕ) (stack : List Fix) (p : Seat (Option B) View) (tally : List Counts) (answer : Answer) → IsSameTable u v → name ≡ home → HasRunTo t v name plan vars stack p tally answer → HasRunTo t u home plan vars stack p tally answer
+ran_to_same t u v home name plan vars stack p tally answer same named h = record {
   ends = h.ends;
   run = run_same t u v home name plan p h.ends same named h.run;
   tally_is = h.tally_is;

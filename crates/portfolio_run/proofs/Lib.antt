@@ -1,6 +1,7 @@
 mod Behind
 mod Concluded
 mod Cuts
+mod Cutting
 mod Deciding
 mod Each
 mod Finishing

@@ -1,10 +1,11 @@
 -- A model of what the rings start from, mended by the ruler's stack.
-use Rattle.std.proofs.Common.{subst, ◌≡◌, ◌∙◌, ◌+◌, ℕ, suc, Bool, true, false, List, [], ◌∷◌, ◌++◌, map, length, refl, sym, ap, arith}
+use Rattle.std.proofs.Common.{◌≡◌, ◌∙◌, ◌+◌, ◌≤◌, ℕ, suc, Bool, true, false, List, [], ◌∷◌, ◌++◌, map, length, take, refl, sym, ap, arith}
 use Rattle.std.specs.Prelude.{All}
 use Rattle.std.specs.Cmp.Derive.{both_true}
 use Rattle.std.proofs.lemmas.Bool.{or_left}
+use Rattle.std.proofs.lemmas.List.{length-take-le}
 use Rattle.std.proofs.lemmas.List.Folds.{list_all-append}
-use Rattle.sat_words.specs.Literal.{Literal}
+use Rattle.sat_words.specs.Literal.{Literal, IsOn}
 use Rattle.sat_words.specs.Truth.{lit_true, clause_true, formula_true}
 use Rattle.sat_words.specs.FormulaData.{FormulaData}
 use Rattle.clause_cell.specs.Packing.{words_for}
@@ -25,6 +26,7 @@ use Rattle.ruler_simp.specs.Left.{start_of as left_start}
 use Rattle.ruler_simp.specs.Ruled.{IsSimplified}
 use Rattle.portfolio_run.specs.Solved.{IsModel}
 use Rattle.portfolio_run.proofs.Behind.{IsAlike}
+use Rattle.portfolio_run.proofs.Cutting.{formula_cut}
 
 abbrev Pair : Type 0
 Pair = ℕ × List Literal
@@ -76,8 +78,10 @@ module _ (F : FormulaData) (J0 : List Entry) (left : Simplified) (h : IsSimplifi
     units = h.units;
   }
 
-  pub model : (a : List Bool) → left.vars ≡ F.vars → length a ≡ F.vars → All (λ (x : Holding). clause_true a x.lits ≡ true) (map (holding_of gs) (starts_at k left.start.items)) → All (λ l. lit_true a l ≡ true) left.units.items → IsModel F (extend left.stack a)
-  model a same long starts units = record {
-    holds = h.lifts a (all_true a (lists left.start.items) (unit_clauses left.units.items) (starts_true a gs k left.start.items starts) (units_true a left.units.items units));
-    long = extended_long F.vars left.stack a (subst (λ (v : ℕ). All (IsFixOn v) left.stack) same h.on.stack) long;
+  -- what makes true all that is left is a model once it is mended, and cut to the formula's variables
+  pub model : (a : List Bool) → F.vars ≤ left.vars → All (All (IsOn F.vars)) F.clauses → length a ≡ left.vars → All (λ (x : Holding). clause_true a x.lits ≡ true) (map (holding_of gs) (starts_at k left.start.items)) → All (λ l. lit_true a l ≡ true) left.units.items → IsModel F (take F.vars (extend left.stack a))
+  model a more on long starts units = record {
+    holds = formula_cut F.vars (extend left.stack a) F.clauses on
+        ∙ h.lifts a (all_true a (lists left.start.items) (unit_clauses left.units.items) (starts_true a gs k left.start.items starts) (units_true a left.units.items units));
+    long = length-take-le F.vars (extend left.stack a) (let wide = extended_long left.vars left.stack a h.on.stack long in omega (arith, more, wide));
   }

@@ -34,7 +34,7 @@ use Rattle.simp_base.specs.WorkState.{begun as begun_work}
 use Rattle.ruler_simp.specs.declared.ruling.Outcome.{Outcome}
 use Rattle.ruler_simp.specs.declared.ruling.Outcome.TheVariants.{Simplified as LeftOver, Refuted as NoModel}
 use Rattle.ruler_simp.specs.declared.ruling.Simplified.{Simplified}
-use Rattle.ruler_simp.specs.Ruled.{AreOn, IsAnswer, HasVars, Ruled, run_of, origin_of as work_origin}
+use Rattle.ruler_simp.specs.Ruled.{IsAnswer, HasVars, Ruled, run_of, origin_of as work_origin}
 use Rattle.ruler_simp.specs.Rounds.{SimplifiedTo}
 use Rattle.ruler_simp.proofs.Telling.{none_made}
 use Rattle.share_core.proofs.Counting.{some_same, none_some}
@@ -53,11 +53,11 @@ use Rattle.portfolio_run.specs.declared.plan.Plan.{Plan}
 use Rattle.portfolio_run.specs.Held.{IsHeld, no_counts}
 use Rattle.portfolio_run.specs.Journaled.{IsJournal, IsUnrefuted}
 use Rattle.portfolio_run.specs.Reached.{Records, WasRuled, HasReached, stopped_answer, unmade_answer}
-use Rattle.portfolio_run.specs.Ruled.{without_additions, IsRuled, IsRuledThrough}
+use Rattle.portfolio_run.specs.Ruled.{schedule_of, IsRuled, IsRuledThrough}
 use Rattle.portfolio_run.specs.Solved.{is_verdict, kind_of, Holds, IsUnsettled, IsReached, IsSolved}
 use Rattle.portfolio_run.proofs.Cuts.{cut_whole, front_of_same, front_told}
 use Rattle.portfolio_run.proofs.Rulers.{AreRulers, all_rulers, rulers_learned, rulers_lines, rulers_of_no_ring, rulers_plain}
-use Rattle.portfolio_run.proofs.Spelling.{formula_on, spelled_from}
+use Rattle.portfolio_run.proofs.Spelling.{formula_on, spelled_from, wider}
 
 on_variables : (L : List Line) → CanBeSpelled L → OnVariables L
 on_variables L spelled k d lt j l less = (spelled k d lt j l less).low
@@ -70,7 +70,7 @@ no_hole l ss need most (front, rest, s, split, n, m, lt) = lt
 
 module _ (plan : Plan) (formula : FormulaData) (old now : LineState) (result : Result Outcome LineStop) (tally : List Counts) (few : formula.vars ≤ 2 ^ 30) (on : All (All (IsOn formula.vars)) formula.clauses)
     (rings : 1 ≤ plan.threads) (some : 1 ≤ plan.conflicts) (none : (tally ≡ []) ⊎ (tally ≡ replicate plan.threads no_counts)) (unspent : old.spent ≡ false) (begins : old.entries ≡ 0) (last_is : old.last ≡ length formula.clauses)
-    (was : Ruled formula (without_additions plan.rounds) old now result) where
+    (was : Ruled formula (schedule_of plan) old now result) where
   abbrev F : List (List Literal)
   F = formula.clauses
 
@@ -80,11 +80,15 @@ module _ (plan : Plan) (formula : FormulaData) (old now : LineState) (result : R
   rulers : AreRulers J
   rulers = was.stands.rulers
 
-  pub has_lines : HasLines (work_origin formula old) J formula.vars now
-  has_lines = subst (λ (s : LineState). HasLines (work_origin formula old) J formula.vars s) (sym was.output) (subst (λ (n : ℕ). HasLines (work_origin formula old) J n was.work.output) (was.vars refl) was.stands.lines)
+  -- the variables that are left, which may be more than the formula's
+  abbrev pub vars : ℕ
+  vars = was.work.vars
+
+  pub has_lines : HasLines (work_origin formula old) J vars now
+  has_lines = subst (λ (s : LineState). HasLines (work_origin formula old) J vars s) (sym was.output) was.stands.lines
 
   pub spelled : CanBeSpelled (lines F J)
-  spelled = spelled_from formula.vars few (formula_book F) J (formula_on formula.vars F on) (subst (λ (n : ℕ). All (All (IsOn n)) (added J)) (was.vars refl) was.stands.on)
+  spelled = spelled_from vars (was.few few) (formula_book F) J (formula_on vars F (wider formula.vars vars was.more F on)) was.stands.on
 
   pub journal_stands : IsJournal plan.threads F J
   journal_stands = record {
@@ -98,7 +102,7 @@ module _ (plan : Plan) (formula : FormulaData) (old now : LineState) (result : R
     spaced = rulers_spaced J rulers;
   }
 
-  pub ruled : IsRuled formula plan.rounds J
+  pub ruled : IsRuled formula (schedule_of plan) J
   ruled = record {
     output = old;
     unspent = unspent;
@@ -106,7 +110,7 @@ module _ (plan : Plan) (formula : FormulaData) (old now : LineState) (result : R
     last = last_is;
     work = was.work;
     result = run_of result;
-    ran = subst (SimplifiedTo (without_additions plan.rounds) (begun_work formula old) was.work (run_of result)) (sym (all_rulers J rulers).0) was.ran;
+    ran = subst (SimplifiedTo (schedule_of plan) (begun_work formula old) was.work (run_of result)) (sym (all_rulers J rulers).0) was.ran;
     alone = λ _. (all_rulers J rulers).1;
   }
 
@@ -137,7 +141,7 @@ module _ (plan : Plan) (formula : FormulaData) (old now : LineState) (result : R
       }
 
   -- no ring ran, and the ruler came to this kind of stop
-  is_reached : (answer : Answer) (kind : ℕ) → kind_of answer ≡ Some kind → kind ≢ STOP_SAT → Holds plan formula J answer → (is_verdict answer ≡ true → IsRuledThrough formula plan.rounds J) → (kind ≡ STOP_PROOF → Rose old.faults now.faults)
+  is_reached : (answer : Answer) (kind : ℕ) → kind_of answer ≡ Some kind → kind ≢ STOP_SAT → Holds plan formula J answer → (is_verdict answer ≡ true → IsRuledThrough formula (schedule_of plan) J) → (kind ≡ STOP_PROOF → Rose old.faults now.faults)
       → (kind ≢ STOP_PROOF → now.faults ≡ old.faults) → IsReached plan formula answer tally old.faults now.faults J
   is_reached answer kind is other holds through rose still = record {
     stands = journal_stands;
@@ -154,7 +158,7 @@ module _ (plan : Plan) (formula : FormulaData) (old now : LineState) (result : R
 
   -- the formula was refuted
 
-  ruled_through : result ≡ Ok NoModel → IsRuledThrough formula plan.rounds J
+  ruled_through : result ≡ Ok NoModel → IsRuledThrough formula (schedule_of plan) J
   unfolding ruled
   ruled_through is = record { ruled = ruled; through = λ why e. found_none why (sym (ap run_of is) ∙ e) }
     where
@@ -218,11 +222,18 @@ module _ {S : Type 0} {d : Ghosts S} (written flushed target : S → Option (Lis
     abbrev told : LineState
     told = told_of written flushed target faults b
 
-    -- the layout of a table for these rings
-    abbrev pub table_layout : Layout
-    table_layout = record { rings = plan.threads; vars = formula.vars; words = plan.words; depth = plan.slots }
+    -- the variables that are left
+    abbrev left_vars : ℕ
+    left_vars = was.ruled.work.vars
 
-    lines_are : HasLines (work_origin formula before) rulers_journal formula.vars told
+    few_left : left_vars ≤ 2 ^ 30
+    few_left = was.ruled.few few
+
+    -- the layout of a table for these rings over so many variables
+    abbrev pub layout_over : ℕ → Layout
+    layout_over vars = record { rings = plan.threads; vars = vars; words = plan.words; depth = plan.slots }
+
+    lines_are : HasLines (work_origin formula before) rulers_journal left_vars told
     lines_are = has_lines plan formula before told result tally few on rings some (inr none) refl refl refl was.ruled
 
     filled_book : told.spent ≡ false → IsFilled (begun F' before) rulers_journal told
@@ -230,13 +241,13 @@ module _ {S : Type 0} {d : Ghosts S} (written flushed target : S → Option (Lis
 
     records_whole : LogLaw b → b.log.lines.spent ≡ false → Records written flushed target faults plan.format sink F' rulers_journal b
     records_whole law q =
-        let h = law F' rulers_journal table_layout plan.format sink plan.keep_lines was.empty (filled_book q) in
-        record { origin = origin_of written flushed target faults b; layout = table_layout; few = few; format_is = h.1.format_is; faults_are = h.1.faults_are; target_is = h.1.target_is; log = h.0.sink; kept = h.0.kept }
+        let h = law F' rulers_journal (layout_over left_vars) plan.format sink plan.keep_lines was.empty (filled_book q) in
+        record { origin = origin_of written flushed target faults b; layout = layout_over left_vars; few = few_left; format_is = h.1.format_is; faults_are = h.1.faults_are; target_is = h.1.target_is; log = h.0.sink; kept = h.0.kept }
 
     records_cut : CutLaw b → b.log.lines.spent ≡ true → Records written flushed target faults plan.format sink F' rulers_journal b
     records_cut law q =
-        let h = law F' rulers_journal table_layout plan.format sink plan.keep_lines was.empty (record { spent = q; text = lines_are.short q; target = lines_are.target }) in
-        record { origin = h.origin; layout = table_layout; few = few; format_is = h.format_is; faults_are = h.faults_are; target_is = h.target_is; log = h.log; kept = λ c. absurd (true≢false (sym q ∙ c)) }
+        let h = law F' rulers_journal (layout_over left_vars) plan.format sink plan.keep_lines was.empty (record { spent = q; text = lines_are.short q; target = lines_are.target }) in
+        record { origin = h.origin; layout = layout_over left_vars; few = few_left; format_is = h.format_is; faults_are = h.faults_are; target_is = h.target_is; log = h.log; kept = λ c. absurd (true≢false (sym q ∙ c)) }
 
     pub records : LogLaw b → CutLaw b → Records written flushed target faults plan.format sink F' rulers_journal b
     records law cut = elim (cases_Bool b.log.lines.spent) as (λ _. Records written flushed target faults plan.format sink F' rulers_journal b) [
@@ -246,7 +257,7 @@ module _ {S : Type 0} {d : Ghosts S} (written flushed target : S → Option (Lis
 
     -- lines are kept if that was asked for
     asked : LogLaw b → b.log.lines.spent ≡ false → is_some b.log.kept.lines ≡ plan.keep_lines
-    asked law q = (law F' rulers_journal table_layout plan.format sink plan.keep_lines was.empty (filled_book q)).1.keeps
+    asked law q = (law F' rulers_journal (layout_over left_vars) plan.format sink plan.keep_lines was.empty (filled_book q)).1.keeps
 
     pub refuted_book : LogLaw b → CutLaw b → result ≡ Ok NoModel → HasReached written flushed target faults sink plan formula Unsat tally b
     refuted_book law cut is = record { journal = rulers_journal; records = records law cut; reached = refuted plan formula before told result tally few on rings some (inr none) refl refl refl was.ruled is; asked = asked law }
@@ -259,15 +270,19 @@ module _ {S : Type 0} {d : Ghosts S} (written flushed target : S → Option (Lis
       left_answer : IsAnswer formula rulers_journal before told (Ok (LeftOver left))
       left_answer = subst (IsAnswer formula rulers_journal before told) is was.ruled.answer
 
-      -- it has the formula's variables
-      left_vars : left.vars ≡ formula.vars
-      left_vars = subst (HasVars was.ruled.work.vars) is was.ruled.has_vars ∙ was.ruled.vars refl
+      -- the variables are those of the work
+      vars_are : left.vars ≡ left_vars
+      vars_are = subst (HasVars left_vars) is was.ruled.has_vars
+
+      -- the layout of the table
+      abbrev table_layout : Layout
+      table_layout = layout_over left.vars
 
       pub left_unspent : b.log.lines.spent ≡ false
       left_unspent = left_answer.1.unspent
 
       -- no table could be made
-      pub unmade_book : LogLaw b → CutLaw b → (why : HoleStop) → IsMakeStop table_layout left.start.items why → HasReached written flushed target faults sink plan formula (unmade_answer why) tally b
+      pub unmade_book : LogLaw b → CutLaw b → (why : HoleStop) → IsMakeStop (layout_over left.vars) left.start.items why → HasReached written flushed target faults sink plan formula (unmade_answer why) tally b
       unmade_book law cut why s = record {
         journal = rulers_journal;
         records = records law cut;
@@ -276,15 +291,15 @@ module _ {S : Type 0} {d : Ghosts S} (written flushed target : S → Option (Lis
       }
 
       -- a table may be made
-      pub may_begin : plan.threads ≤ 16 → plan.words ≤ 2 ^ 31 → 1 ≤ plan.slots → plan.slots ≤ 16 → MayBegin F' table_layout rulers_journal left.start.items left.units.items
+      pub may_begin : plan.threads ≤ 16 → plan.words ≤ 2 ^ 31 → 1 ≤ plan.slots → plan.slots ≤ 16 → MayBegin F' (layout_over left.vars) rulers_journal left.start.items left.units.items
       may_begin few_rings few_words some_slot few_slots =
           let entries = (filled_book left_unspent).entries in
           let small = b.few in
-          let on_left : AreOn formula.vars left = subst (λ (v : ℕ). AreOn v left) left_vars left_answer.0.on in
+          let on_left = left_answer.0.on in
           record {
             some_ring = rings;
             few_rings = few_rings;
-            few_vars = few;
+            few_vars = subst (λ (n : ℕ). n ≤ 2 ^ 30) (sym vars_are) few_left;
             few_words = few_words;
             some_slot = some_slot;
             few_slots = few_slots;
@@ -298,7 +313,7 @@ module _ {S : Type 0} {d : Ghosts S} (written flushed target : S → Option (Lis
 
       -- over the book, which began with the sink
       pub has_log : LogLaw b
-          → HasLog account_of (IsLogOf written flushed target faults) b (origin_of written flushed target faults b) table_layout F' rulers_journal × IsFrom target faults plan.format sink plan.keep_lines (origin_of written flushed target faults b)
+          → HasLog account_of (IsLogOf written flushed target faults) b (origin_of written flushed target faults b) (layout_over left.vars) F' rulers_journal × IsFrom target faults plan.format sink plan.keep_lines (origin_of written flushed target faults b)
       has_log law = law F' rulers_journal table_layout plan.format sink plan.keep_lines was.empty (filled_book left_unspent)
 
 -- memory ran out before a line was put, and the sink was flushed
@@ -306,7 +321,7 @@ pub starved : (plan : Plan) (formula : FormulaData) (tally : List Counts) (befor
     → (tally ≡ []) ⊎ (tally ≡ replicate plan.threads no_counts) → IsEmptyWhereTold written → before ≤ faults → IsClosed before faults flushed written → IsSolved plan formula Memory tally before faults flushed written None
 starved plan formula tally before faults flushed written few on rings some none empty later closed =
     let old : LineState = record { format = plan.format; entries = 0; last = length formula.clauses; spent = false; faults = before; written = written; target = None; flushed = None; kept = None } in
-    let was : Ruled formula (without_additions plan.rounds) old old (Err line_stop.Memory) = none_made formula (without_additions plan.rounds) old refl refl refl on old refl in
+    let was : Ruled formula (schedule_of plan) old old (Err line_stop.Memory) = none_made formula (schedule_of plan) old refl refl refl on old refl in
     let h : IsReached plan formula Memory tally before before was.journal = stopped plan formula old old (Err line_stop.Memory) tally few on rings some none refl refl refl was line_stop.Memory refl in
     let bytes : List ℕ = proof_bytes plan.format (lines formula.clauses was.journal) in
     let holds : HoldsText written bytes = told_text written bytes empty ((has_lines plan formula old old (Err line_stop.Memory) tally few on rings some none refl refl refl was).whole refl).bytes in

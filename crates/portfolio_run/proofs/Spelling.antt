@@ -26,6 +26,10 @@ use Rattle.drat_text.specs.Text.{CanBeSpelled}
 abbrev pub AreOn : ℕ → Book → Type 0
 AreOn vars b = (n : ℕ) → IfSome (b.clause n) (All (IsOn vars))
 
+-- more variables do as well
+pub wider : (n m : ℕ) → n ≤ m → (F : List (List Literal)) → All (All (IsOn n)) F → All (All (IsOn m)) F
+wider n m more F on k d lt j l less = let h = on k d lt j l less in let high = h.high in record { low = h.low; high = omega arith }
+
 in_order_on : (vars : ℕ) (c : List Literal) → All (IsOn vars) c → All (IsOn vars) (clause_of c)
 in_order_on vars c all =
     In_All (IsOn vars) (clause_of c) (λ l i. All_In (IsOn vars) c l all (has_In c l (has_same (clause_of c) c l (same_back c (clause_of c) (same_set-clause_of c)) (In_has (clause_of c) l i))))

@@ -55,7 +55,7 @@ module _ {S : Type 0} {d : Ghosts S} (written flushed target : S → Option (Lis
   origin = origin_of written flushed target faults b
 
   abbrev wide : Layout
-  wide = record { rings = plan.threads; vars = F.vars; words = plan.words; depth = plan.slots }
+  wide = record { rings = plan.threads; vars = left.vars; words = plan.words; depth = plan.slots }
 
   -- why there is no table
   abbrev Refused : Type 0
@@ -107,11 +107,20 @@ first_rights t p l o w pass is =
       rights = λ r le lt. subst (λ (u : View). r < u.opening.rings → 0 < times_in r u.rights) (sym v) (λ low. let k = times_up_to r o.rings low in omega arith) lt;
     }
 
+-- the table is over the formula's variables, and over those that the stack mends
+pub table_fits : {S : Type 0} {d : Ghosts S} (written flushed target : S → Option (List ℕ)) (faults : S → ℕ) (sink : S) (plan : Plan) (F : FormulaData) (left : Simplified) (t : Shared (Book S d)) (p : Seat (Option (Book S d)) View) (cells : List Cref)
+    → IsOpened written flushed target faults sink plan F left t p cells → (F.vars ≤ t.layout.vars) × All (λ (fix : Fix). fix.lit.var ≤ t.layout.vars) left.stack
+table_fits written flushed target faults sink plan F left t p cells h =
+    let same : left.vars ≡ t.layout.vars = ap (λ (l : Layout). l.vars) (sym h.layout_is) in (
+      subst (λ (n : ℕ). F.vars ≤ n) (sym h.was.ruled.has_vars ∙ same) h.was.ruled.more,
+      subst (λ (n : ℕ). All (λ (fix : Fix). fix.lit.var ≤ n) left.stack) same (λ k fix lt. (h.was.ruled.answer.0.on.stack k fix lt).lit.high),
+    )
+
 -- each ring has its counts
-pub all_counted : {B : Type 0} (t : Shared B) (v : View) (home : List ℕ) (plan : Plan) (stack : List Fix) (p : Seat (Option B) View) (before tally : List Counts) (answer : Answer) → length before ≡ v.opening.rings
-    → HasSearched t v home plan stack p before tally answer → length tally ≡ v.opening.rings
-all_counted t v home plan stack p before tally answer as_many (inl h) = ap (λ (ds : List Counts). length ds) h.tally_is ∙ length-map h.ends (λ (e : End × Counts). e.1) ∙ h.run.many
-all_counted t v home plan stack p before tally answer as_many (inr h) = ap (λ (ds : List Counts). length ds) h.tally_is ∙ as_many
+pub all_counted : {B : Type 0} (t : Shared B) (v : View) (home : List ℕ) (plan : Plan) (vars : ℕ) (stack : List Fix) (p : Seat (Option B) View) (before tally : List Counts) (answer : Answer) → length before ≡ v.opening.rings
+    → HasSearched t v home plan vars stack p before tally answer → length tally ≡ v.opening.rings
+all_counted t v home plan vars stack p before tally answer as_many (inl h) = ap (λ (ds : List Counts). length ds) h.tally_is ∙ length-map h.ends (λ (e : End × Counts). e.1) ∙ h.run.many
+all_counted t v home plan vars stack p before tally answer as_many (inr h) = ap (λ (ds : List Counts). length ds) h.tally_is ∙ as_many
 
 module _ {S : Type 0} {d : Ghosts S} (written flushed target : S → Option (List ℕ)) (faults : S → ℕ) (sink : S) (plan : Plan) (F : FormulaData) (few : F.vars ≤ 2 ^ 30) (on : All (All (IsOn F.vars)) F.clauses)
     (rings : 1 ≤ plan.threads) (few_rings : plan.threads ≤ 16) (some : 1 ≤ plan.conflicts) (t : Shared (Book S d)) (p : Seat (Option (Book S d)) View) (tally : List Counts) (answer : Answer)

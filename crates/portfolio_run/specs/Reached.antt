@@ -34,7 +34,7 @@ use Rattle.portfolio_run.specs.declared.answer.Answer.TheVariants.{NoHole, Proof
 use Rattle.portfolio_run.specs.declared.plan.Plan.{Plan}
 use Rattle.portfolio_run.specs.Ends.{AreEndsOf}
 use Rattle.portfolio_run.specs.Noted.{RulersRun}
-use Rattle.portfolio_run.specs.Ruled.{without_additions}
+use Rattle.portfolio_run.specs.Ruled.{schedule_of}
 use Rattle.portfolio_run.specs.Runs.{RanAs}
 use Rattle.portfolio_run.specs.Seats.{IsAtRest, IsSameTable}
 use Rattle.portfolio_run.specs.Solved.{IsReached}
@@ -57,11 +57,11 @@ module _ {S : Type 0} {d : Ghosts S} (written flushed target : S → Option (Lis
   -- the ruler has come to this over the formula, and wrote its lines into this book, which began with this sink
   pub record WasRuled (sink : S) (plan : Plan) (formula : FormulaData) (b : Book S d) (result : Result Outcome LineStop) : Type 0 where
     pub empty : IsEmptyWhereTold (written sink)
-    pub ruled : Ruled formula (without_additions plan.rounds) (told_new written flushed target faults plan.format (length formula.clauses) sink plan.keep_lines) (told_of written flushed target faults b) result
+    pub ruled : Ruled formula (schedule_of plan) (told_new written flushed target faults plan.format (length formula.clauses) sink plan.keep_lines) (told_of written flushed target faults b) result
 
   -- its run, as it is known
   abbrev pub run_to : S → Plan → FormulaData → Book S d → Result Outcome LineStop → RulersRun
-  run_to sink plan formula b result = record { formula = formula; rounds = plan.rounds; before = told_new written flushed target faults plan.format (length formula.clauses) sink plan.keep_lines; now = told_of written flushed target faults b; result = result }
+  run_to sink plan formula b result = record { formula = formula; schedule = schedule_of plan; before = told_new written flushed target faults plan.format (length formula.clauses) sink plan.keep_lines; now = told_of written flushed target faults b; result = result }
 
 -- The answer
 

@@ -21,7 +21,7 @@ use Rattle.portfolio_run.specs.declared.answer.Answer.TheVariants.{Sat, Unsat, U
 use Rattle.portfolio_run.specs.declared.plan.Plan.{Plan}
 use Rattle.portfolio_run.specs.Held.{IsHeld, HasStop}
 use Rattle.portfolio_run.specs.Journaled.{IsJournal, IsUnrefuted, IsCutShort}
-use Rattle.portfolio_run.specs.Ruled.{IsRuled, IsRuledThrough}
+use Rattle.portfolio_run.specs.Ruled.{schedule_of, IsRuled, IsRuledThrough}
 
 -- a value for each variable, which make each clause true
 pub record IsModel (formula : FormulaData) (model : List Bool) : Type 0 where
@@ -82,18 +82,18 @@ kind_of Memory = Some STOP_MEMORY
 -- line had failed, unless two rings or more ran beside each other after a ruler that was done
 pub record FaultsFit (plan : Plan) (formula : FormulaData) (journal : List Entry) (before searched : ℕ) (kind : Option ℕ) : Type 0 where
   pub rose : kind ≡ Some STOP_PROOF → Rose before searched
-  pub calm : kind ≢ Some STOP_PROOF → (searched ≡ before) ⊎ ((2 ≤ plan.threads) × IsRuledThrough formula plan.rounds journal)
+  pub calm : kind ≢ Some STOP_PROOF → (searched ≡ before) ⊎ ((2 ≤ plan.threads) × IsRuledThrough formula (schedule_of plan) journal)
 
 -- a search has come to this answer, which holds, over this journal: it begins with what the ruler wrote in the plan's rounds, and the
 -- rings' steps leave it, with the stop of this answer; a verdict comes only if the simplifiers came to their end. The sink of the
 -- proof had failed this often before the search, and this often by then.
 pub record IsReached (plan : Plan) (formula : FormulaData) (answer : Answer) (tally : List Counts) (before searched : ℕ) (journal : List Entry) : Type 0 where
   pub stands : IsJournal plan.threads formula.clauses journal
-  pub ruled : IsRuled formula plan.rounds journal
+  pub ruled : IsRuled formula (schedule_of plan) journal
   pub held : IsHeld plan.threads plan.slots plan.conflicts formula.clauses journal tally
   pub stop : HasStop held (kind_of answer)
   pub holds : Holds plan formula journal answer
-  pub through : is_verdict answer ≡ true → IsRuledThrough formula plan.rounds journal
+  pub through : is_verdict answer ≡ true → IsRuledThrough formula (schedule_of plan) journal
   pub faults_fit : FaultsFit plan formula journal before searched (kind_of answer)
 
 -- the answer that is known is that of the search, or in the place of a verdict, where the sink has failed, a fault of the proof; a

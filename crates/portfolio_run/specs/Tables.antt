@@ -22,8 +22,8 @@ use Rattle.portfolio_run.specs.Reached.{WasRuled}
 use Rattle.portfolio_run.specs.Searched.{HasSearched}
 
 module _ {S : Type 0} {d : Ghosts S} (written flushed target : S → Option (List ℕ)) (faults : S → ℕ) where
-  -- the table is open over what the ruler left, for the plan's rings, words and slots; its first pass knows no more than that, and the
-  -- book's origin is the sink, with the plan's format
+  -- the table is open over what the ruler left, on the variables that are left, for the plan's rings, words and slots; its first pass
+  -- knows no more than that, and the book's origin is the sink, with the plan's format
   pub record IsOpened (sink : S) (plan : Plan) (formula : FormulaData) (left : Simplified) (t : Shared (Book S d)) (p : Seat (Option (Book S d)) View) (cells : List Cref) : Type 0 where
     pub book : Book S d
     pub was : WasRuled written flushed target faults sink plan formula book (Ok (LeftOver left))
@@ -32,7 +32,7 @@ module _ {S : Type 0} {d : Ghosts S} (written flushed target : S → Option (Lis
     pub faults_are : origin.faults ≡ faults sink
     pub target_is : origin.target ≡ target sink
     pub keeps_are : origin.keeps ≡ plan.keep_lines
-    pub layout_is : t.layout ≡ record { rings = plan.threads; vars = formula.vars; words = plan.words; depth = plan.slots }
+    pub layout_is : t.layout ≡ record { rings = plan.threads; vars = left.vars; words = plan.words; depth = plan.slots }
     pub pass : IsPassOf t p
     pub me : p.me ≡ (first_view t.layout (begun_with formula.clauses t.layout was.ruled.journal left.start.items left.units.items) origin, [])
     pub cells_are : cells ≡ addresses p.me.0.opening.starts
@@ -44,4 +44,4 @@ module _ {S : Type 0} {d : Ghosts S} (written flushed target : S → Option (Lis
     pub cells : List Cref
     pub opened : IsOpened sink plan formula left t first cells
     pub home : List ℕ
-    pub searched : HasSearched t first.me.0 home plan left.stack p (replicate plan.threads no_counts) tally answer
+    pub searched : HasSearched t first.me.0 home plan formula.vars left.stack p (replicate plan.threads no_counts) tally answer

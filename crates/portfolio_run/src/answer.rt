@@ -5,7 +5,7 @@ use sat_words::{Assignment, Line, NoRoom};
 /// The answer to a formula.
 #[derive(Drop)]
 pub enum Answer {
-    /// This assignment makes each clause true.
+    /// This assignment makes each clause true. It has a value for each variable of the formula, and no other.
     Sat(Assignment),
     /// No assignment does, and the log shows it.
     Unsat,

@@ -17,6 +17,8 @@ pub struct Plan {
     pub walk: u64,
     /// How many rounds of simplifiers the formula may get before the search; in none, units alone are propagated.
     pub rounds: u32,
+    /// Whether each round may add variables that stand for two literals, if fewer clauses do then.
+    pub additions: bool,
     /// How the lines of the log are spelled.
     pub format: ProofFormat,
     /// Whether the lines of the log are kept, for a check.

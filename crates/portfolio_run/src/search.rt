@@ -20,7 +20,7 @@ use model_stack::Stack;
 use ring_pass::RingPass;
 use ring_port::Gate;
 use ring_run::{Counts, End};
-use sat_words::Cref;
+use sat_words::{Assignment, Cref, Formula};
 use share_rule::{Ledger, Pass, Shared};
 use std::alloc::{AllocError, Global};
 use std::sync::Wait;
@@ -35,17 +35,30 @@ struct Space<B: Ledger> {
     back: Vec<Pass<B>>,
     /// For the rings' ends, with what they counted.
     ends: Vec<(End, Counts)>,
+    /// For the values of the formula's variables in a model.
+    values: Assignment,
 }
 
-/// Room for this many rings.
-fn make_space<B: Ledger>(alloc: Global, rings: usize) -> Result<Space<B>, AllocError>
+/// Room for this many rings, and for a model of the formula.
+fn make_space<B: Ledger>(
+    alloc: Global,
+    rings: usize,
+    formula: &Formula,
+) -> Result<Space<B>, AllocError>
     ensures none { IfOk result (λ space. (space.passes.items ≡ []) × (space.back.items ≡ []) × (space.ends.items ≡ [])) }
     ensures room { IfOk result (λ space. (rings ≤ vec_capacity space.passes) × (rings ≤ vec_capacity space.back) × (rings ≤ vec_capacity space.ends)) }
+    ensures long { IfOk result (λ space. length space.values ≡ formula.now.vars) }
 {
     let passes = Vec::with_capacity(alloc, rings)?;
     let back = Vec::with_capacity(alloc, rings)?;
     let ends = Vec::with_capacity(alloc, rings)?;
-    Ok(Space { passes, back, ends })
+    let values = Assignment::new(alloc, formula.vars())?;
+    Ok(Space {
+        passes,
+        back,
+        ends,
+        values,
+    })
 }
 
 /// Runs the rings, takes them in, and takes the answer from the end that counts. It takes no memory but what the rings take.
@@ -55,11 +68,13 @@ fn run_rings<S: Sink + Send, G: Gate + Sync, H: Threads + Wait + Sync>(
     table: &Shared<Book<S>>,
     first: &mut Pass<Book<S>>,
     plan: &Plan,
+    formula: &Formula,
     stack: &Stack,
     tally: &mut Vec<Counts>,
     rings: Vec<RingJob<RingPass<'_, S, G, H>>>,
     back: Vec<Pass<Book<S>>>,
     ends: Vec<(End, Counts)>,
+    values: Assignment,
 ) -> Answer
     requires first { IsAtRest table.now first.old × (first.old.me.0.parts ≡ []) }
     requires many { (length rings.items ≡ first.old.me.0.opening.rings) × (length tally.old.items ≡ first.old.me.0.opening.rings) }
@@ -67,15 +82,17 @@ fn run_rings<S: Sink + Send, G: Gate + Sync, H: Threads + Wait + Sync>(
     requires ready { All (λ r. IsReady r.port r.job) rings.items }
     requires none { (back.items ≡ []) × (ends.items ≡ []) }
     requires room { (length rings.items ≤ vec_capacity back) × (length rings.items ≤ vec_capacity ends) }
+    requires long { length values ≡ formula.now.vars }
+    requires more { formula.now.vars ≤ table.now.layout.vars }
     requires fits { All (λ fix. fix.lit.var ≤ table.now.layout.vars) stack.now }
-    ensures { HasRunTo table.now first.old.me.0 (home_of first.old) plan.now stack.now first.new tally.new.items result }
+    ensures { HasRunTo table.now first.old.me.0 (home_of first.old) plan.now formula.now.vars stack.now first.new tally.new.items result }
 {
     let mut rings = rings;
     run_all(rt, alloc, rings.as_mut_slice());
     let mut ends = ends;
     join_rings(table, first, plan, rings, back, &mut ends);
     note_counts(ends.as_slice(), tally);
-    decide(table, first, stack, ends)
+    decide(table, first, formula, stack, values, ends)
 }
 
 /// Runs all rings over the table and gathers their passes, and takes the answer from the end that counts. Refused for memory
@@ -88,6 +105,7 @@ pub(crate) fn search<S: Sink + Send, G: Gate + Sync, H: Threads + Wait + Sync>(
     gate: &G,
     start: &[Cref],
     plan: &Plan,
+    formula: &Formula,
     stack: &Stack,
     tally: &mut Vec<Counts>,
 ) -> Answer
@@ -95,11 +113,12 @@ pub(crate) fn search<S: Sink + Send, G: Gate + Sync, H: Threads + Wait + Sync>(
     requires rings { (first.old.me.0.opening.rings ≡ plan.now.threads) × (1 ≤ plan.now.threads) × (plan.now.threads ≤ 16) }
     requires start { start.now ≡ addresses first.old.me.0.opening.starts }
     requires some { 1 ≤ plan.now.conflicts }
+    requires more { formula.now.vars ≤ table.now.layout.vars }
     requires fits { All (λ fix. fix.lit.var ≤ table.now.layout.vars) stack.now }
     requires tally { length tally.old.items ≡ plan.now.threads }
-    ensures { HasSearched table.now first.old.me.0 (home_of first.old) plan.now stack.now first.new tally.old.items tally.new.items result }
+    ensures { HasSearched table.now first.old.me.0 (home_of first.old) plan.now formula.now.vars stack.now first.new tally.old.items tally.new.items result }
 {
-    let Ok(space) = make_space(alloc, plan.threads as usize) else {
+    let Ok(space) = make_space(alloc, plan.threads as usize, formula) else {
         grant_all(table, first, plan.threads);
         return Answer::Memory;
     };
@@ -107,11 +126,12 @@ pub(crate) fn search<S: Sink + Send, G: Gate + Sync, H: Threads + Wait + Sync>(
         mut passes,
         back,
         ends,
+        values,
     } = space;
     hand_out(table, first, plan.threads, &mut passes);
     match make_ports(alloc, table, first, gate, rt, start, plan, passes) {
         Ok(rings) => run_rings(
-            rt, alloc, table, first, plan, stack, tally, rings, back, ends,
+            rt, alloc, table, first, plan, formula, stack, tally, rings, back, ends, values,
         ),
         Err(refused) => {
             gather(table, first, refused.value);

@@ -128,6 +128,7 @@ fn solve_noted<S: Sink + Send, G: Gate + Sync, H: Threads + Wait + Sync>(
                 gate,
                 cells.as_slice(),
                 plan,
+                formula,
                 &stack,
                 &mut tally,
             );
@@ -197,7 +198,7 @@ fn solve_counted<S: Sink + Send, G: Gate + Sync, H: Threads + Wait + Sync>(
     };
     let schedule = Schedule {
         rounds: plan.rounds,
-        additions: false,
+        additions: plan.additions,
     };
     let (outcome, book) = simplify(alloc, formula, schedule, book);
     book.has_its_log();

@@ -49,7 +49,7 @@ pub(crate) fn open_table<S: Sink>(
     book.has_its_log();
     let layout = Layout {
         rings: plan.threads,
-        vars: formula.vars(),
+        vars: left.vars,
         words: plan.words,
         depth: plan.slots,
     };

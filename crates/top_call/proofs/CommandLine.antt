@@ -96,7 +96,7 @@ alone_at id (x ∷ rules) (suc place) e (suc k) r lt h = ap suc (alone_at id rul
 
 -- how many rules there are
 abbrev rules_count : ℕ
-rules_count = 12
+rules_count = 13
 
 all_simple : (k : ℕ) (r : Rule) → k < rules_count → ((slice_index_or solver_rules k r).is_simple ≡ true) × ((slice_index_or solver_rules k r).is_free ≡ true)
 all_simple k r lt = (each_passes (λ x. x.is_simple) solver_rules refl k r lt, each_passes (λ x. x.is_free) solver_rules refl k r lt)
@@ -240,8 +240,8 @@ seed_option = record { within = omega arith; at = λ d. refl; alone = alone_at (
 walk_option : IsOption 5 0 (10 ^ 9) (codes "walk") walk_rule
 walk_option = record { within = omega arith; at = λ d. refl; alone = alone_at (codes "walk") solver_rules 5 refl; named = λ e. cc e; other = walk_alone; id_is = refl; simple = refl; sets = refl; parser = refl; one = refl }
 
-make_option : IsOption 10 0 (2 ^ 63 - 1) (codes "make") make_rule
-make_option = record { within = omega arith; at = λ d. refl; alone = alone_at (codes "make") solver_rules 10 refl; named = λ e. cc e; other = make_alone; id_is = refl; simple = refl; sets = refl; parser = refl; one = refl }
+make_option : IsOption 11 0 (2 ^ 63 - 1) (codes "make") make_rule
+make_option = record { within = omega arith; at = λ d. refl; alone = alone_at (codes "make") solver_rules 11 refl; named = λ e. cc e; other = make_alone; id_is = refl; simple = refl; sets = refl; parser = refl; one = refl }
 
 module _ (c : ClapCommand) (m : ArgMatches) (app : app_of c ≡ solver_app) (p : IsParsedFrom c m) where
   rules_are : map rule_of (args_of c) ≡ solver_rules
@@ -362,4 +362,4 @@ module _ (c : ClapCommand) (m : ArgMatches) (app : app_of c ≡ solver_app) (p :
 
   -- they have one for `--make`, or none
   pub made_of : HasMade m
-  made_of = number_or_none 10 0 (2 ^ 63 - 1) (codes "make") make_rule make_option
+  made_of = number_or_none 11 0 (2 ^ 63 - 1) (codes "make") make_rule make_option

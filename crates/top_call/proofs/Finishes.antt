@@ -18,7 +18,7 @@ use Rattle.portfolio_run.specs.declared.answer.Answer.{Answer}
 use Rattle.portfolio_run.specs.declared.answer.Answer.TheVariants.{Sat, Unsat, NoHole}
 use Rattle.portfolio_run.specs.declared.answer.Answer.TheVariants as answer
 use Rattle.portfolio_run.specs.declared.plan.Plan.{Plan as SearchPlan}
-use Rattle.portfolio_run.specs.Ruled.{IsRuledThrough}
+use Rattle.portfolio_run.specs.Ruled.{schedule_of, IsRuledThrough}
 use Rattle.portfolio_run.specs.Solved.{Holds, FaultsFit, IsTold, IsFinished, IsSolved, is_verdict, kind_of, unfinished}
 use Rattle.top_call.specs.declared.plan.CallPlan.{CallPlan}
 use Rattle.top_call.specs.declared.report.Tally.{Tally}
@@ -60,7 +60,7 @@ unread plan text source out f0 f1 w0 w1 fl0 fl1 result quiet empty same cause fl
 -- ---- the answer of the rings
 
 -- an answer that is a verdict holds, in a run in which the simplifiers came to their end
-found_verdict : (plan : SearchPlan) (F : FormulaData) (J : List Entry) (found : Answer) (occurring : List Bool) → IsOccurring F.clauses F.vars occurring → is_verdict found ≡ true → Holds plan F J found → IsRuledThrough F plan.rounds J
+found_verdict : (plan : SearchPlan) (F : FormulaData) (J : List Entry) (found : Answer) (occurring : List Bool) → IsOccurring F.clauses F.vars occurring → is_verdict found ≡ true → Holds plan F J found → IsRuledThrough F (schedule_of plan) J
     → IsVerdictKind (kind_of found) plan F J
 found_verdict plan F J (Sat model) occurring occurs is holds ruled =
     record { decided = record { verdict = Satisfiable (both occurring model); decides = record { holds = cleared F occurring model (both occurring model) holds occurs (has_both occurring model); ruled = ruled } }; kind_is = refl }
@@ -87,7 +87,7 @@ told_found found a before faults t other = elim t.ends [
 
 -- a verdict that an answer comes to holds, and is of its kind
 decided : (plan : SearchPlan) (F : FormulaData) (J : List Entry) (a : Answer) (occurring : List Bool) (result : Result SearchVerdict CallEnd) (verdict : SearchVerdict)
-    → IsOccurring F.clauses F.vars occurring → IsVerdictOf occurring a result → result ≡ Ok verdict → Holds plan F J a → (is_verdict a ≡ true → IsRuledThrough F plan.rounds J)
+    → IsOccurring F.clauses F.vars occurring → IsVerdictOf occurring a result → result ≡ Ok verdict → Holds plan F J a → (is_verdict a ≡ true → IsRuledThrough F (schedule_of plan) J)
     → (kind_of a ≡ verdict_kind verdict) × Decides plan F J verdict
 decided plan F J (Sat model) occurring result verdict occurs is ok holds ruled =
     let same : Satisfiable is.model ≡ verdict = let e : Ok (Satisfiable is.model) ≡ result = sym is.is in cc in
@@ -172,7 +172,7 @@ with_lack kind lack F J tally run s = record {
 
 -- a fault of the proof is that of the search, or comes after a verdict
 fault_found : (plan : SearchPlan) (F : FormulaData) (J : List Entry) (found : Answer) (occurring : List Bool) (faults : ℕ) → IsOccurring F.clauses F.vars occurring → IsTold found answer.ProofFault 0 faults → Holds plan F J found
-    → (is_verdict found ≡ true → IsRuledThrough F plan.rounds J) → (kind_of found ≡ Some STOP_PROOF) ⊎ IsVerdictKind (kind_of found) plan F J
+    → (is_verdict found ≡ true → IsRuledThrough F (schedule_of plan) J) → (kind_of found ≡ Some STOP_PROOF) ⊎ IsVerdictKind (kind_of found) plan F J
 fault_found plan F J (Sat model) occurring faults occurs t holds ruled = inr (found_verdict plan F J (Sat model) occurring occurs refl holds (ruled refl))
 fault_found plan F J Unsat occurring faults occurs t holds ruled = inr (found_verdict plan F J Unsat occurring occurs refl holds (ruled refl))
 fault_found plan F J answer.Unknown occurring faults occurs t holds ruled = inr (found_verdict plan F J answer.Unknown occurring occurs refl holds (ruled refl))

@@ -9,7 +9,7 @@ use Rattle.sat_words.specs.declared.shared.TheConstants.{STOP_SAT, STOP_REFUTED}
 use Rattle.rup_model.specs.declared.journal.Entry.{Entry}
 use Rattle.rup_model.specs.Spent.{SpentAll}
 use Rattle.portfolio_run.specs.declared.plan.Plan.{Plan}
-use Rattle.portfolio_run.specs.Ruled.{IsRuledThrough}
+use Rattle.portfolio_run.specs.Ruled.{schedule_of, IsRuledThrough}
 use Rattle.portfolio_run.specs.Solved.{IsModel, IsRefutation}
 use Rattle.top_call.specs.declared.report.SearchVerdict.{SearchVerdict}
 use Rattle.top_call.specs.declared.report.SearchVerdict.TheVariants.{Satisfiable, Unsatisfiable, Unknown}
@@ -37,7 +37,7 @@ Holds plan formula journal Unknown = SpentAll formula.clauses journal plan.threa
 -- the verdict holds of a run with this plan, in which the simplifiers came to their end
 pub record Decides (plan : Plan) (formula : FormulaData) (journal : List Entry) (verdict : SearchVerdict) : Type 0 where
   pub holds : Holds plan formula journal verdict
-  pub ruled : IsRuledThrough formula plan.rounds journal
+  pub ruled : IsRuledThrough formula (schedule_of plan) journal
 
 -- the kind of the stop with which the rings come to the verdict; none if each ring has learned its limit
 abbrev pub verdict_kind : SearchVerdict → Option ℕ

@@ -11,7 +11,7 @@ use Rattle.ring_run.specs.declared.job.Counts.{Counts}
 use Rattle.portfolio_run.specs.declared.plan.Plan.{Plan as SearchPlan}
 use Rattle.portfolio_run.specs.Held.{IsHeld, HasStop}
 use Rattle.portfolio_run.specs.Journaled.{IsJournal}
-use Rattle.portfolio_run.specs.Ruled.{IsRuled}
+use Rattle.portfolio_run.specs.Ruled.{schedule_of, IsRuled}
 use Rattle.portfolio_run.specs.Solved.{IsUnsettled, FaultsFit}
 use Rattle.dimacs_read.specs.Codes.{number_of}
 use Rattle.dimacs_read.specs.declared.stop.Code.{Code}
@@ -63,7 +63,7 @@ pub record IsStarted (kind : Option ℕ) (lack : NoRoom) (formula : FormulaData)
   pub given : WasGiven run.plan.make run.text formula
   pub source : IsStill run.source
   pub journal_stands : IsJournal run.plan.search.threads formula.clauses journal
-  pub ruled : IsRuled formula run.plan.search.rounds journal
+  pub ruled : IsRuled formula (schedule_of run.plan.search) journal
   pub counts : List Counts
   pub held : IsHeld run.plan.search.threads run.plan.search.slots run.plan.search.conflicts formula.clauses journal counts
   pub stop : HasStop held kind

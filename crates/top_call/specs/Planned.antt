@@ -20,13 +20,14 @@ search_of command = record {
   seed = command.seed;
   walk = command.walk;
   rounds = rounds_of command.no_simplify;
+  additions = command.add;
   format = proof_format (Some command);
   keep_lines = command.check;
 }
 
 -- the search of no command
 abbrev pub no_search : SearchPlan
-no_search = record { threads = 0; conflicts = 0; words = 0; slots = 0; seed = 0; walk = 0; rounds = 0; format = proof_format None; keep_lines = false }
+no_search = record { threads = 0; conflicts = 0; words = 0; slots = 0; seed = 0; walk = 0; rounds = 0; additions = false; format = proof_format None; keep_lines = false }
 
 -- what the arguments ask for
 abbrev pub plan_of : Option Command → CallPlan

@@ -78,6 +78,10 @@ binary_rule = record (new_rule (codes "binary")) { long = Some (codes "binary");
 abbrev pub no_simplify_rule : Rule
 no_simplify_rule = record (new_rule (codes "no-simplify")) { long = Some (codes "no-simplify"); action = Some SetTrue }
 
+-- `--add`
+abbrev pub add_rule : Rule
+add_rule = record (new_rule (codes "add")) { long = Some (codes "add"); action = Some SetTrue }
+
 -- `--check`
 abbrev pub check_rule : Rule
 check_rule = record (new_rule (codes "check")) { long = Some (codes "check"); action = Some SetTrue }
@@ -105,7 +109,7 @@ with_rules app (rule ∷ rules) = with_rules (with_rule app rule) rules
 
 -- the options of the program, in their order
 abbrev pub solver_rules : List Rule
-solver_rules = conflicts_rule ∷ threads_rule ∷ words_rule ∷ slots_rule ∷ seed_rule ∷ walk_rule ∷ proof_rule ∷ binary_rule ∷ no_simplify_rule ∷ check_rule ∷ make_rule ∷ file_rule ∷ []
+solver_rules = conflicts_rule ∷ threads_rule ∷ words_rule ∷ slots_rule ∷ seed_rule ∷ walk_rule ∷ proof_rule ∷ binary_rule ∷ no_simplify_rule ∷ add_rule ∷ check_rule ∷ make_rule ∷ file_rule ∷ []
 
 -- the program's command
 abbrev pub solver_app : App
@@ -127,6 +131,8 @@ pub record Command : Type 0 where
   pub walk : ℕ
   -- whether only units are propagated, and nothing else is simplified
   pub no_simplify : Bool
+  -- whether the simplifiers may add variables
+  pub add : Bool
   -- the path of the proof, if it is wanted
   pub proof : Option (List ℕ)
   -- whether the proof is written in binary
@@ -148,6 +154,7 @@ asked_by asked = record {
   seed = asked.seed;
   walk = asked.walk;
   no_simplify = asked.no_simplify;
+  add = asked.add;
   proof = option_copied asked.proof;
   binary = asked.binary;
   check = asked.check;
@@ -179,6 +186,7 @@ command_in rows = record {
   seed = number_in (one_of (codes "seed") rows);
   walk = number_in (one_of (codes "walk") rows);
   no_simplify = flag_in (first_of (codes "no-simplify") rows);
+  add = flag_in (first_of (codes "add") rows);
   proof = first_of (codes "proof") rows;
   binary = flag_in (first_of (codes "binary") rows);
   check = flag_in (first_of (codes "check") rows);

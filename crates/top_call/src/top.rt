@@ -213,6 +213,7 @@ fn plan_in(command: &Command<'_>) -> CallPlan
         seed: command.seed,
         walk: command.walk,
         rounds: rounds_of(command.no_simplify),
+        additions: command.add,
         format: format_of(command.binary),
         keep_lines: command.check,
     };

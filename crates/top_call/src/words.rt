@@ -4,7 +4,7 @@ ghost use Rattle.clap.specs.Words.{app_of, found_of, rows_of, rule_of};
 ghost use Rattle.clap.specs.declared.error.kind.ErrorKind.TheVariants.{OutOfMemory};
 ghost use Rattle.top_call.specs.Ends.{IsWordsEnd};
 ghost use Rattle.top_call.specs.Planned.{IsInRange, search_of};
-ghost use Rattle.top_call.specs.Words.{HasThreads, HasLimit, HasWords, HasSlots, HasSeed, HasWalk, HasMade, asked_by, command_in, command_of, unless_both, solver_app, conflicts_rule, threads_rule, words_rule, slots_rule, seed_rule, walk_rule, proof_rule, binary_rule, no_simplify_rule, check_rule, make_rule, file_rule};
+ghost use Rattle.top_call.specs.Words.{HasThreads, HasLimit, HasWords, HasSlots, HasSeed, HasWalk, HasMade, asked_by, command_in, command_of, unless_both, solver_app, conflicts_rule, threads_rule, words_rule, slots_rule, seed_rule, walk_rule, proof_rule, binary_rule, no_simplify_rule, add_rule, check_rule, make_rule, file_rule};
 
 use crate::report::CallEnd;
 use clap::builder::ValueParser;
@@ -53,6 +53,8 @@ pub struct Command<'a> {
     pub walk: u64,
     /// Whether only units are propagated, and nothing else is simplified.
     pub no_simplify: bool,
+    /// Whether the simplifiers may add variables.
+    pub add: bool,
     /// Where the proof goes, if it is wanted.
     pub proof: Option<&'a str>,
     /// Whether the proof is written in binary.
@@ -156,6 +158,15 @@ fn no_simplify_arg<'a>(alloc: Global) -> Arg<'a>
         .action(ArgAction::SetTrue)
 }
 
+fn add_arg<'a>(alloc: Global) -> Arg<'a>
+    ensures rule { rule_of result ≡ add_rule }
+    ensures local { result.global ≡ false }
+{
+    Arg::new(alloc, "add")
+        .long("add")
+        .action(ArgAction::SetTrue)
+}
+
 fn check_arg<'a>(alloc: Global) -> Arg<'a>
     ensures rule { rule_of result ≡ check_rule }
     ensures local { result.global ≡ false }
@@ -199,6 +210,7 @@ fn solver<'a>(alloc: Global) -> Result<clap::Command<'a>, AllocError>
         .arg(proof_arg(alloc))?
         .arg(binary_arg(alloc))?
         .arg(no_simplify_arg(alloc))?
+        .arg(add_arg(alloc))?
         .arg(check_arg(alloc))?
         .arg(make_arg(alloc))?
         .arg(file_arg(alloc))
@@ -302,6 +314,16 @@ fn no_simplify_in(matches: &ArgMatches<'_>) -> bool
     }
 }
 
+/// Whether the simplifiers may add variables.
+fn add_in(matches: &ArgMatches<'_>) -> bool
+    ensures { result ≡ (command_in (rows_of (found_of matches.now))).add }
+{
+    match matches.get_str("add") {
+        Some(value) => value == "true",
+        None => false,
+    }
+}
+
 /// Whether the log is checked.
 fn check_in(matches: &ArgMatches<'_>) -> bool
     ensures { result ≡ (command_in (rows_of (found_of matches.now))).check }
@@ -343,6 +365,7 @@ fn command_in<'a>(matches: &ArgMatches<'a>) -> Command<'a>
         seed: seed_in(matches),
         walk: walk_in(matches),
         no_simplify: no_simplify_in(matches),
+        add: add_in(matches),
         proof: matches.get_str("proof"),
         binary: binary_in(matches),
         check: check_in(matches),

@@ -8,7 +8,7 @@ use Rattle.portfolio_run.proofs.search.run_rings.Goals as goal
 pub decide-requires-clause-mended : goal.decide-requires-clause-mended
 decide-requires-clause-mended g c =
     let first = c.args.first.now in
-    mended_ends c.args.table.now first.me.0 (home_of first) c.args.plan.now c.join_rings.new.first c.join_rings.new.ends.items c.args.stack.now c.requires.first.0.0.2 c.requires.fits c.join_rings.ensures
+    mended_ends c.args.table.now first.me.0 (home_of first) c.args.plan.now c.join_rings.new.first c.join_rings.new.ends.items c.args.formula.now.vars c.args.stack.now c.requires.first.0.0.2 c.requires.more c.requires.fits c.join_rings.ensures
 
 pub returns : goal.returns
 returns g c =

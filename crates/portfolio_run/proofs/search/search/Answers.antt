@@ -13,7 +13,7 @@ returns-in-Ok-make_ports g c =
     let out = c.hand_out.new.first in
     let h = c.hand_out.ensures in
     let named = home_same c.args.table.now first out c.requires.first.pass h.first.pass in
-    inl (ran_to_same c.args.table.now first.me.0 out.me.0 (home_of first) (home_of out) c.args.plan.now c.args.stack.now c.run_rings.new.first c.run_rings.new.tally.items c.run_rings.result h.same named c.run_rings.ensures)
+    inl (ran_to_same c.args.table.now first.me.0 out.me.0 (home_of first) (home_of out) c.args.plan.now c.args.formula.now.vars c.args.stack.now c.run_rings.new.first c.run_rings.new.tally.items c.run_rings.result h.same named c.run_rings.ensures)
 
 pub returns-in-Err : goal.returns-in-Err
 returns-in-Err g c =

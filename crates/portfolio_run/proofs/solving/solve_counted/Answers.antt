@@ -4,7 +4,7 @@ use Rattle.log_book.specs.Books.{told_new, told_of}
 use Rattle.ruler_simp.specs.Ruled.{Ruled}
 use Rattle.ruler_simp.specs.declared.ruling.Outcome.TheVariants.{Simplified as LeftOver}
 use Rattle.portfolio_run.specs.Reached.{WasRuled, HasReached}
-use Rattle.portfolio_run.specs.Ruled.{without_additions}
+use Rattle.portfolio_run.specs.Ruled.{schedule_of}
 use Rattle.portfolio_run.specs.declared.answer.Answer.{Answer}
 use Rattle.portfolio_run.proofs.Ruling.{refuted_book, stopped_book}
 use Rattle.portfolio_run.proofs.solving.solve_counted.Goals as goal
@@ -21,7 +21,7 @@ solve_left-requires g c κs within =
     let q = c.requires.1.1.1.1.1.1 in
     let was : WasRuled w f t fa g.given plan F b c.simplify-outcome.result.0 = record {
       empty = q.1.1.1.1.1.1.1.0;
-      ruled = subst (λ (s : LineState). Ruled F (without_additions plan.rounds) s (told_of w f t fa b) c.simplify-outcome.result.0)
+      ruled = subst (λ (s : LineState). Ruled F (schedule_of plan) s (told_of w f t fa b) c.simplify-outcome.result.0)
           (c.in-Ok.ensures.told ∙ (λ i. told_new w f t fa plan.format (length (c.clauses.ensures i)) (q.0 i) plan.keep_lines)) c.simplify-outcome.ensures;
     } in
     let is : c.simplify-outcome.result.0 ≡ Ok (LeftOver c.in-Ok-Simplified.left) = c.in-Ok-Simplified.is ∙ ap Ok c.in-Ok-Simplified.field-0-is in (
@@ -74,7 +74,7 @@ finish-requires g c κs within =
     let q = c.requires.1.1.1.1.1.1 in
     let was : WasRuled w f t fa g.given plan F b c.simplify-outcome.result.0 = record {
       empty = q.1.1.1.1.1.1.1.0;
-      ruled = subst (λ (s : LineState). Ruled F (without_additions plan.rounds) s (told_of w f t fa b) c.simplify-outcome.result.0)
+      ruled = subst (λ (s : LineState). Ruled F (schedule_of plan) s (told_of w f t fa b) c.simplify-outcome.result.0)
           (c.in-Ok.ensures.told ∙ (λ i. told_new w f t fa plan.format (length (c.clauses.ensures i)) (q.0 i) plan.keep_lines)) c.simplify-outcome.ensures;
     } in (
       within,
@@ -94,7 +94,7 @@ finish-requires-in-Err-outcome g c κs within =
     let q = c.requires.1.1.1.1.1.1 in
     let was : WasRuled w f t fa g.given plan F b c.simplify-outcome.result.0 = record {
       empty = q.1.1.1.1.1.1.1.0;
-      ruled = subst (λ (s : LineState). Ruled F (without_additions plan.rounds) s (told_of w f t fa b) c.simplify-outcome.result.0)
+      ruled = subst (λ (s : LineState). Ruled F (schedule_of plan) s (told_of w f t fa b) c.simplify-outcome.result.0)
           (c.in-Ok.ensures.told ∙ (λ i. told_new w f t fa plan.format (length (c.clauses.ensures i)) (q.0 i) plan.keep_lines)) c.simplify-outcome.ensures;
     } in (
       within,

@@ -62,15 +62,21 @@ turn_tight v ns kind lits need most s w may add long from on need_is most_is sho
     let from_there : follows (c.part r) lits ≡ true = ap (λ (p : Part). follows p lits) (sym n.sheet.part) ∙ from in
     let back : (P : CoreOpening → List Entry → Type 0) → P c.opening c.journal → P v.opening J = λ P h. subst (λ (y : CoreOpening × List Entry). P y.0 y.1) (λ i. (opening i, sym n.sheet.journal i)) h in
     let begun : length v.opening.journal ≤ length J = back (λ o K. length o.journal ≤ length K) (begins_long c sound) in
-    inl (J, [], sym (append-nil J), begun, record {
-      clause = lits;
-      next = record {
-        long = long;
-        on = on;
-        valid = back (λ o K. rup (alive o.formula (lines o.formula K)) lits ≡ true) (follows_alive c r lits sound lt from_there);
-        cause = back (λ o K. IsFreshForSome o K lits ⊎ IsPartOfAlive o K lits) (cause_of c r kind lits sound lt add_there);
-      };
-      need_is = need_is;
-      most_is = most_is;
-      short = short;
-    })
+    inl (
+      J,
+      [],
+      sym (append-nil J),
+      begun,
+      record {
+        clause = lits;
+        next = record {
+          long = long;
+          on = on;
+          valid = back (λ o K. rup (alive o.formula (lines o.formula K)) lits ≡ true) (follows_alive c r lits sound lt from_there);
+          cause = back (λ o K. IsFreshForSome o K lits ⊎ IsPartOfAlive o K lits) (cause_of c r kind lits sound lt add_there);
+        };
+        need_is = need_is;
+        most_is = most_is;
+        short = short;
+      },
+    )

@@ -397,7 +397,8 @@ def run(program, folder, variables, clauses, satisfiable, text, from_file, optio
 
 class Case:
     """One run in a folder of its own, and what must come of it. `input` is a file there, where it is given, and `out` is
-    where standard output goes, if not to be compared; `here` names the files that must be there afterwards."""
+    where standard output goes, if not to be compared; `stderr` is a text or a pattern; `here` names the files that must be there
+    afterwards."""
 
     def __init__(self, status, words=(), stdin=b"", input=None, stdout="", stderr="", out=None, here=()):
         self.status, self.words, self.stdin, self.input = status, words, stdin, input
@@ -467,6 +468,10 @@ def statuses():
     yield Case(0, [*alone, "9", "--check", "input"], MODEL, pigeonhole, stdout=accepted + "s UNKNOWN\n", here=["input"])
     chain = b"p cnf 15 13\n" + b"".join(b"%d %d %d 0\n" % (i, i + 1, i + 2) for i in range(1, 14))
     yield Case(8, ["--no-simplify", "--words", "64"], chain, stderr="gimsatul: no room: need 5, largest hole 4\n")
+    # six pigeons in five holes take 336 words: six clauses of 6 words, and 75 of 4
+    full, lone = spelled(*pigeons(5)), ["--no-simplify", "--threads", "1", "--words"]
+    yield Case(8, [*lone, "335"], full, stderr="gimsatul: no room: need 4, largest hole 3\n")
+    yield Case(8, [*lone, "336"], full, stderr=re.compile("gimsatul: no room: need ([4-9]|1[0-8]), largest hole 0\n"))
     yield Case(10, [], MODEL, stdout="s SATISFIABLE\nv -1 2 0\n")
     yield Case(20, ["input"], MODEL, REFUTED, stdout="s UNSATISFIABLE\n", here=["input"])
     yield Case(20, ["--add", "--check", "input"], MODEL, pigeonhole, stdout=accepted + "s UNSATISFIABLE\n", here=["input"])
@@ -490,7 +495,8 @@ def try_status(program, case):
                     raise Wrong("%r: another answer" % (case.words,))
         if done.returncode != case.status:
             raise Wrong("%r: status %d in place of %d" % (case.words, done.returncode, case.status))
-        if done.stderr.decode("ascii") != case.stderr:
+        told = done.stderr.decode("ascii")
+        if not (case.stderr == told if isinstance(case.stderr, str) else case.stderr.fullmatch(told)):
             raise Wrong("%r: on standard error: %r" % (case.words, done.stderr))
         if set(os.listdir(folder)) != case.here:
             raise Wrong("%r: it leaves the files %r" % (case.words, sorted(os.listdir(folder))))

@@ -37,6 +37,7 @@ use Rattle.portfolio_run.specs.declared.answer.Answer.TheVariants.{Sat, Unsat, U
 use Rattle.portfolio_run.specs.declared.plan.Plan.{Plan}
 use Rattle.portfolio_run.specs.Held.{no_counts}
 use Rattle.portfolio_run.specs.Reached.{Records, WasRuled, HasReached, IsGathered, HaveRested}
+use Rattle.portfolio_run.specs.Room.{layout_of}
 use Rattle.portfolio_run.specs.Searched.{HasRunTo, HasStarved, HasSearched, AllSpent, WasWon}
 use Rattle.portfolio_run.specs.Solved.{kind_of}
 use Rattle.portfolio_run.proofs.Deciding.{IsDecided, starved, decided_spent, decided_won}
@@ -71,12 +72,15 @@ gathered_of t v home plan vars left p before tally answer (inr h) = h.rested.gat
 
 module _ {S : Type 0} {d : Ghosts S} (written flushed target : S → Option (List ℕ)) (faults : S → ℕ) (sink : S) (plan : Plan) (F : FormulaData) (old : Book S d) (left : Simplified) (l : Layout) (origin : BookOrigin)
     (few : F.vars ≤ 2 ^ 30) (on : All (All (IsOn F.vars)) F.clauses) (some_conflicts : 1 ≤ plan.conflicts) (some_ring : 1 ≤ plan.threads) (few_rings : plan.threads ≤ 16)
-    (was : WasRuled written flushed target faults sink plan F old (Ok (LeftOver left))) (rings_are : l.rings ≡ plan.threads) (vars_are : l.vars ≡ left.vars) (depth_is : l.depth ≡ plan.slots)
+    (was : WasRuled written flushed target faults sink plan F old (Ok (LeftOver left))) (table_is : l ≡ layout_of plan left.vars)
     (format_is : origin.format ≡ plan.format) (faults_are : origin.faults ≡ faults sink) (target_is : origin.target ≡ target sink) (keeps_are : origin.keeps ≡ plan.keep_lines)
     (t : Shared (Book S d)) (home : List ℕ) (p : Seat (Option (Book S d)) View) (tally : List Counts) (answer : Answer)
     (b : Book S d) (s : Seen p.me.0) (fault : Bool) (stands : StandsFor account_of (IsLogOf written flushed target faults) b p.me.0.origin p.me.0.layout p.me.0.opening s.core.journal fault) (tells : TellsFaults p.me.0.parts fault) where
   abbrev v : View
   v = first_view l (began_with F l was.ruled.journal left) origin
+
+  rings_are : l.rings ≡ plan.threads
+  rings_are = ap (λ (x : Layout). x.rings) table_is
 
   few_rings_there : plan.threads ≤ RULER_RING
   few_rings_there = few_rings
@@ -86,14 +90,14 @@ module _ {S : Type 0} {d : Ghosts S} (written flushed target : S → Option (Lis
     gathered = gathered_of t v home plan F.vars left p (replicate plan.threads no_counts) tally answer searched
 
     abbrev K : List Entry
-    K = entries written flushed target faults sink plan F old left l origin few on some_conflicts some_ring few_rings_there was rings_are vars_are depth_is p.me.0 gathered.same s
+    K = entries written flushed target faults sink plan F old left l origin few on some_conflicts some_ring few_rings_there was table_is p.me.0 gathered.same s
 
     g : GoesOn plan F left l was.ruled.journal K p.me.0 s
-    g = goes_on written flushed target faults sink plan F old left l origin few on some_conflicts some_ring few_rings_there was rings_are vars_are depth_is p.me.0 gathered.same s
+    g = goes_on written flushed target faults sink plan F old left l origin few on some_conflicts some_ring few_rings_there was table_is p.me.0 gathered.same s
 
     -- the book has come to the journal
     pub book_records : Records written flushed target faults plan.format sink F.clauses s.core.journal b
-    book_records = records written flushed target faults sink plan F old left l origin few on some_conflicts some_ring few_rings_there was rings_are vars_are depth_is p.me.0 gathered.same s b fault format_is faults_are target_is stands
+    book_records = records written flushed target faults sink plan F old left l origin few on some_conflicts some_ring few_rings_there was table_is p.me.0 gathered.same s b fault format_is faults_are target_is stands
 
     idle_at : HaveRested t v p → (r : ℕ) → r < plan.threads → (s.core.part r).wrote ≡ []
     idle_at h r lt =

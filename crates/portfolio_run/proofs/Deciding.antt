@@ -6,6 +6,7 @@ use Rattle.std.proofs.lemmas.List.{get_or-map, length-map}
 use Rattle.std.specs.List.{list_any}
 use Rattle.sat_words.specs.Clause.{is_empty}
 use Rattle.sat_words.specs.FormulaData.{FormulaData}
+use Rattle.sat_words.specs.declared.shared.NoRoom.{NoRoom}
 use Rattle.sat_words.specs.declared.shared.TheConstants.{STOP_SAT, STOP_PROOF, STOP_MEMORY}
 use Rattle.rup_model.specs.declared.journal.Entry.{Entry}
 use Rattle.rup_model.specs.Journal.{added, ended, learned}
@@ -24,7 +25,10 @@ use Rattle.share_rule.specs.FirstWords.{starts_at}
 use Rattle.share_rule.specs.Layout.{first_cell}
 use Rattle.share_rule.specs.Passes.{TellsFaults}
 use Rattle.share_rule.specs.Seen.{Seen}
+use Rattle.share_rule.specs.Tight.{IsTight, program_core}
 use Rattle.share_rule.specs.Views.{first_view, start_glues, own_stop}
+use Rattle.share_rule.proofs.Tightness.{program_tight}
+use Rattle.ring_port.specs.declared.stops.PortStop.TheVariants.{NoHole as NoHoleAnswer}
 use Rattle.ring_port.specs.Port.{is_usable}
 use Rattle.ring_port.specs.PortState.{PortState}
 use Rattle.ring_run.specs.declared.job.Counts.{Counts}
@@ -39,6 +43,7 @@ use Rattle.portfolio_run.specs.Ends.{set_of}
 use Rattle.portfolio_run.specs.Held.{IsProgramOpening, IsTallied, RanOnce, IsHeld, HasStop, no_counts}
 use Rattle.portfolio_run.specs.Journaled.{IsJournal, IsUnrefuted}
 use Rattle.portfolio_run.specs.Reached.{RanAt}
+use Rattle.portfolio_run.specs.Room.{layout_of}
 use Rattle.portfolio_run.specs.Ruled.{schedule_of, IsRuledThrough}
 use Rattle.portfolio_run.specs.Searched.{answer_of, AllSpent, WasWon}
 use Rattle.portfolio_run.specs.Solved.{Holds, IsUnsettled, kind_of}
@@ -47,7 +52,7 @@ use Rattle.portfolio_run.proofs.Interleaving.{own, none_of}
 use Rattle.portfolio_run.proofs.Mending.{alike, model, placed_starts}
 use Rattle.portfolio_run.proofs.Placing.{placed_own}
 use Rattle.portfolio_run.proofs.RingsJournal.{HasWritten, AreTogether, ruler_is, rings_is, journal_stands, learned_there, spent_all, unsettled, refutation}
-use Rattle.portfolio_run.proofs.RingsRun.{starts_from, port, has_written, learned_many, tallied, ended_is, cause, faulty, spent_is, fewer, unrefuted, calm}
+use Rattle.portfolio_run.proofs.RingsRun.{starts_from, port, has_written, learned_many, tallied, ended_is, cause, wanted, faulty, spent_is, fewer, unrefuted, calm}
 use Rattle.portfolio_run.proofs.Behind.{IsAlike}
 use Rattle.portfolio_run.proofs.Spelling.{wider}
 
@@ -58,7 +63,7 @@ pub record IsDecided (plan : Plan) (F : FormulaData) (answer : Answer) (tally : 
   pub ruled : IsRuledThrough F (schedule_of plan) J
   pub held : IsHeld plan.threads plan.slots plan.conflicts F.clauses J tally
   pub stop : HasStop held (kind_of answer)
-  pub holds : Holds plan F J answer
+  pub holds : Holds plan ruled.ruled.work.vars F J answer
   pub rose : answer ≡ ProofFault → Failed
   pub calm : plan.threads ≡ 1 → kind_of answer ≢ Some STOP_PROOF → Calm
 
@@ -69,6 +74,10 @@ module _ (plan : Plan) (F : FormulaData) (left : Simplified) (l : Layout) (origi
   -- the formula, on the variables that are left
   abbrev wide : FormulaData
   wide = record { vars = left.vars; clauses = F.clauses }
+
+  -- the variables of the table
+  abbrev vars : ℕ
+  vars = g.through.ruled.work.vars
 
   -- the table as it was opened
   abbrev v : View
@@ -181,7 +190,7 @@ module _ (plan : Plan) (F : FormulaData) (left : Simplified) (l : Layout) (origi
       tallied = tallied_at;
     }
 
-    decided : (Failed Calm : Type 0) (answer : Answer) → option_map (λ (x : Stop). x.kind) s.core.stop ≡ kind_of answer → Holds plan F J answer → (answer ≡ ProofFault → Failed) → (plan.threads ≡ 1 → kind_of answer ≢ Some STOP_PROOF → Calm) → IsDecided plan F answer tally Failed Calm s.core.journal
+    decided : (Failed Calm : Type 0) (answer : Answer) → option_map (λ (x : Stop). x.kind) s.core.stop ≡ kind_of answer → Holds plan vars F J answer → (answer ≡ ProofFault → Failed) → (plan.threads ≡ 1 → kind_of answer ≢ Some STOP_PROOF → Calm) → IsDecided plan F answer tally Failed Calm s.core.journal
     unfolding ran_once
     decided Failed Calm answer stop holds rose calm =
         subst (IsDecided plan F answer tally Failed Calm) (sym g.journal_is)
@@ -208,7 +217,7 @@ module _ (plan : Plan) (F : FormulaData) (left : Simplified) (l : Layout) (origi
     decided_spent Failed fault tells long answer h =
         decided Failed (fault ≡ false) answer
         (ap (option_map (λ (x : Stop). x.kind)) (unstopped (λ r lt. h.each r none_ended (among r lt)) s.core.stop refl) ∙ ap kind_of (sym h.is))
-        (subst (Holds plan F J) (sym h.is) (spent_all wide J0 K plan.threads (starts_from v) t plan.conflicts one))
+        (subst (Holds plan vars F J) (sym h.is) (spent_all wide J0 K plan.threads (starts_from v) t plan.conflicts one))
         (λ e. (let clash : Unknown ≡ ProofFault = sym h.is ∙ e in absurd (cc clash)))
         (λ threads ne. calm_at 0 (omega (arith, threads)) threads long fault tells (subst (Cause (port_at 0 (omega (arith, threads)))) (h.each 0 none_ended (among 0 (omega (arith, threads)))) (cause_at 0 (omega (arith, threads)))).usable)
       where
@@ -244,12 +253,22 @@ module _ (plan : Plan) (F : FormulaData) (left : Simplified) (l : Layout) (origi
           (fewer v w home plan s r (end_at r) (counts_at r) (ran_at r lt) plan.threads g.rings_are lt K start (g.wrote r lt) (λ e. other (sym is ∙ e)))
           (unrefuted_at r lt none)
 
-      holds_by : (kind : ℕ) (x : End) → end_at r ≡ x → Cause (port_at r lt) x → stop_kind x ≡ Some kind → Holds plan F J (answer_of F.vars left.stack x)
+      -- if its port was refused for want of room, the table had none
+      no_room : (lack : NoRoom) → (port_at r lt).refused ≡ Some (NoHoleAnswer lack) → IsTight (layout_of plan vars) (program_core F.clauses (layout_of plan vars) (ruler_part J)) J lack.need lack.largest
+      no_room lack e =
+          let there : IsTight w.layout s.core.opening s.core.journal lack.need lack.largest =
+          wanted v w home plan s r (end_at r) (counts_at r) (ran_at r lt) plan.threads g.rings_are lt K start (g.wrote r lt) lack e in
+          let begun : IsTight l (began_with F l J0 left) J lack.need lack.largest =
+          subst (λ (y : Layout × (CoreOpening × List Entry)). IsTight y.0 y.1.0 y.1.1 lack.need lack.largest) (λ i. (g.layout_is i, (g.opening_is i, g.journal_is i))) there in
+          let opened : IsTight l (program_core F.clauses l J0) J lack.need lack.largest = program_tight F.clauses l J0 J left.start.items left.units.items lack.need lack.largest g.left_is.starts begun in
+          subst (λ (y : Layout × List Entry). IsTight y.0 (program_core F.clauses y.0 y.1) J lack.need lack.largest) (λ i. (g.table_is i, sym (ruler_is wide J0 K plan.threads (starts_from v) t) i)) opened
+
+      holds_by : (kind : ℕ) (x : End) → end_at r ≡ x → Cause (port_at r lt) x → stop_kind x ≡ Some kind → Holds plan vars F J (answer_of F.vars left.stack x)
       holds_by kind (end.Sat a) is c won = model F J0 left g.left_is (start_glues (starts_at (first_cell l) left.start.items)) (first_cell l) a g.more g.on (c.0.long ∙ g.vars_are) c.0.start c.0.opening
       holds_by kind end.Refuted is c won = refutation wide J0 K plan.threads (starts_from v) t g.left_is.going (log_ended c.0)
       holds_by kind end.Spent is c won = absurd (none_some kind won)
       holds_by kind (end.Stopped x) is c won = absurd (none_some kind won)
-      holds_by kind (end.NoHole lack) is c won = (c.1, unsettled_by (end.NoHole lack) is (λ e. cc e) c.2)
+      holds_by kind (end.NoHole lack) is c won = (inr (no_room lack c.0), unsettled_by (end.NoHole lack) is (λ e. cc e) c.2)
       holds_by kind end.ProofFault is c won = tt
       holds_by kind end.Memory is c won = unsettled_by end.Memory is (λ e. cc e) c.1
 
@@ -280,6 +299,6 @@ module _ (plan : Plan) (F : FormulaData) (left : Simplified) (l : Layout) (origi
         let kind_is : kind_of answer ≡ Some h.won.kind = ap kind_of is ∙ answers_kind (end_at h.ring) ∙ h.won.decided none_ended in
         decided Failed (fault ≡ false) answer
         (ap (option_map (λ (x : Stop). x.kind)) (s.stops.stands (record { kind = h.won.kind; ring = h.ring }) h.won.stop) ∙ sym (h.won.decided none_ended) ∙ sym (answers_kind (end_at h.ring)) ∙ ap kind_of (sym is))
-        (subst (Holds plan F J) (sym is) (holds_by h.ring lt h.won.kind (end_at h.ring) refl (cause_at h.ring lt) (h.won.decided none_ended)))
+        (subst (Holds plan vars F J) (sym is) (holds_by h.ring lt h.won.kind (end_at h.ring) refl (cause_at h.ring lt) (h.won.decided none_ended)))
         (λ e. fails (rose_by h.ring lt fault tells (end_at h.ring) (cause_at h.ring lt) (sym is ∙ e)))
         (λ threads ne. calm_at h.ring lt threads long fault tells (usable_by h.ring lt h.won.kind (end_at h.ring) (cause_at h.ring lt) (h.won.decided none_ended) (λ e. ne (kind_is ∙ ap Some e))))

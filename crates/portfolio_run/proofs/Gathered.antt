@@ -30,6 +30,7 @@ use Rattle.ruler_simp.specs.Rounds.{SimplifiedTo}
 use Rattle.ruler_simp.specs.Ruled.{IsAnswer, IsSimplified}
 use Rattle.portfolio_run.specs.declared.plan.Plan.{Plan}
 use Rattle.portfolio_run.specs.Reached.{Records, WasRuled}
+use Rattle.portfolio_run.specs.Room.{layout_of}
 use Rattle.portfolio_run.specs.Ruled.{schedule_of, IsRuled, IsRuledThrough}
 use Rattle.portfolio_run.specs.Seats.{IsSameTable}
 use Rattle.portfolio_run.proofs.Placing.{same_rest}
@@ -51,10 +52,12 @@ pub record GoesOn (plan : Plan) (F : FormulaData) (left : Simplified) (l : Layou
   pub rings_are : l.rings ≡ plan.threads
   pub vars_are : l.vars ≡ left.vars
   pub depth_is : l.depth ≡ plan.slots
+  pub layout_is : w.layout ≡ l
   pub rulers : AreRulers J0
   pub on_ruler : All (All (IsOn left.vars)) (added J0)
   pub left_is : IsSimplified F J0 left
   pub through : IsRuledThrough F (schedule_of plan) (J0 ++ K)
+  pub table_is : l ≡ layout_of plan through.ruled.work.vars
   pub opening_is : s.core.opening ≡ began_with F l J0 left
   pub journal_is : s.core.journal ≡ J0 ++ K
   pub of_rings : All (λ e. ring_of e < plan.threads) K
@@ -63,7 +66,7 @@ pub record GoesOn (plan : Plan) (F : FormulaData) (left : Simplified) (l : Layou
 
 module _ {S : Type 0} {d : Ghosts S} (written flushed target : S → Option (List ℕ)) (faults : S → ℕ) (sink : S) (plan : Plan) (F : FormulaData) (old : Book S d) (left : Simplified) (l : Layout) (origin : BookOrigin)
     (few : F.vars ≤ 2 ^ 30) (on : All (All (IsOn F.vars)) F.clauses) (some : 1 ≤ plan.conflicts) (some_ring : 1 ≤ plan.threads) (few_rings : plan.threads ≤ RULER_RING)
-    (was : WasRuled written flushed target faults sink plan F old (Ok (LeftOver left))) (rings_are : l.rings ≡ plan.threads) (vars_are : l.vars ≡ left.vars) (depth_is : l.depth ≡ plan.slots)
+    (was : WasRuled written flushed target faults sink plan F old (Ok (LeftOver left))) (table_is : l ≡ layout_of plan left.vars)
     (w : View) (same : IsSameTable (first_view l (began_with F l was.ruled.journal left) origin) w) (s : Seen w) where
   abbrev J0 : List Entry
   J0 = was.ruled.journal
@@ -79,6 +82,12 @@ module _ {S : Type 0} {d : Ghosts S} (written flushed target : S → Option (Lis
 
   opening_is : s.core.opening ≡ began_with F l J0 left
   opening_is = sym s.opening ∙ same.opening
+
+  rings_are : l.rings ≡ plan.threads
+  rings_are = ap (λ (x : Layout). x.rings) table_is
+
+  vars_are : l.vars ≡ left.vars
+  vars_are = ap (λ (x : Layout). x.vars) table_is
 
   abbrev pub sound : Sound s.core
   sound = left_sound s.core.opening s.core s.left
@@ -123,6 +132,10 @@ module _ {S : Type 0} {d : Ghosts S} (written flushed target : S → Option (Lis
   unfolding ruled
   through = record { ruled = ruled; through = λ why e. cc e }
 
+  through_work : through.ruled.work.vars ≡ was.ruled.work.vars
+  unfolding through ruled
+  through_work = refl
+
   -- the variables that are left are those of the work
   work_vars : was.ruled.work.vars ≡ left.vars
   work_vars = sym was.ruled.has_vars
@@ -140,11 +153,13 @@ module _ {S : Type 0} {d : Ghosts S} (written flushed target : S → Option (Lis
     few_rings = few_rings;
     rings_are = rings_are;
     vars_are = vars_are;
-    depth_is = depth_is;
+    depth_is = ap (λ (x : Layout). x.depth) table_is;
+    layout_is = same.layout;
     rulers = rulers;
     on_ruler = subst (λ (n : ℕ). All (All (IsOn n)) (added J0)) work_vars was.ruled.stands.on;
     left_is = answered.0;
     through = through;
+    table_is = table_is ∙ ap (layout_of plan) (sym (through_work ∙ work_vars));
     opening_is = opening_is;
     journal_is = journal_is;
     of_rings = of_rings;

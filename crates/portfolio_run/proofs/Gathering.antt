@@ -182,6 +182,7 @@ ran_same u v home name plan ring seen part end counts lay open_is named r = reco
   looks = r.looks;
   ran = subst (λ (l : Layout). F l u.opening home) (sym lay) (subst (λ (o : CoreOpening). F v.layout o home) (sym open_is) (subst (λ (h : List ℕ). F v.layout v.opening h) (sym named) r.ran));
   ended_is = r.ended_is;
+  refused_is = r.refused_is;
   faulty_is = r.faulty_is;
   alone_is = λ one. r.alone_is (sym (ap (λ (o : CoreOpening). o.rings) open_is) ∙ one);
   set = r.set;

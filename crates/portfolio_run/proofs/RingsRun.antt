@@ -1,6 +1,6 @@
 -- What a ring's run says of its part in the core that the table shows when it is closed.
 use Rattle.std.proofs.Common.{◌≡◌, ◌∙◌, ◌+◌, ◌-◌, ◌*◌, ◌^◌, ◌<◌, ◌≤◌, ℕ, zero, suc, Bool, true, false, true≢false, List, [], ◌∷◌, map, filter, length, count_by, refl, sym, ap, subst, arith}
-use Rattle.std.specs.Prelude.{All}
+use Rattle.std.specs.Prelude.{All, Some}
 use Rattle.std.proofs.Math.Nat.{min-eq_left}
 use mathlib.Core.Logic.{dite}
 use mathlib.Core.Option.{some, some-injective, some-ne-none}
@@ -20,16 +20,21 @@ use Rattle.share_core.specs.Left.{shares}
 use Rattle.share_core.specs.Sound.{placed}
 use Rattle.share_core.proofs.Leaving.{left_sound}
 use Rattle.share_core.proofs.Others.{run_shared}
+use Rattle.sat_words.specs.declared.shared.NoRoom.{NoRoom}
+use Rattle.share_rule.specs.declared.view.Refusal.TheVariants as note
 use Rattle.share_rule.specs.declared.view.RingPart.{RingPart}
 use Rattle.share_rule.specs.declared.view.View.{View}
 use Rattle.share_rule.specs.Passes.{TellsFaults}
 use Rattle.share_rule.specs.Views.{start_glues}
 use Rattle.share_rule.specs.Seen.{Seen, IsPart}
+use Rattle.share_rule.specs.Tight.{IsTight}
+use Rattle.ring_port.specs.declared.stops.PortStop.TheVariants.{NoHole as NoHoleAnswer}
 use Rattle.ring_port.specs.PortState.{PortState}
 use Rattle.ring_port.specs.Port.{is_usable}
 use Rattle.ring_port.specs.Exchange.{other_rings}
 use Rattle.ring_port.specs.Log.{start_of}
 use Rattle.ring_pass.specs.RingState.{holding_of, port_with}
+use Rattle.ring_pass.proofs.RoomHere.{noted_room}
 use Rattle.ring_run.specs.declared.job.Counts.{Counts}
 use Rattle.ring_run.specs.declared.job.End.{End}
 use Rattle.ring_run.specs.declared.job.End.TheVariants.{Spent}
@@ -144,6 +149,10 @@ module _ (v w : View) (home : List ℕ) (plan : Plan) (s : Seen w) (r : ℕ) (en
   -- the log is ended if its port says so
   pub ended_is : port.ended ≡ true → ended s.core.opening.formula s.core.journal ≡ true
   ended_is e = is_part.ended_is (h.ran.ended_is e)
+
+  -- the table had no room if the port was refused last for want of it
+  pub wanted : (lack : NoRoom) → port.refused ≡ Some (NoHoleAnswer lack) → IsTight w.layout s.core.opening s.core.journal lack.need lack.largest
+  wanted lack e = is_part.refused (note.NoHole lack.need lack.largest) (noted_room h.part.refused lack (sym h.ran.refused_is ∙ e))
 
   pub cause : Cause port end
   cause = h.ran.ran.ends.cause

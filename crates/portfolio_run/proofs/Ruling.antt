@@ -1,7 +1,7 @@
 -- What is known once the ruler has come to its end, and no ring has written anything.
 use Rattle.io_edge.specs.declared.edge.Sink.{Ghosts}
 use Rattle.std.proofs.Common.{◌≡◌, ◌≢◌, ◌∙◌, ◌<◌, ◌≤◌, ◌^◌, ◌+◌, ◌||◌, ℕ, Bool, true, false, List, [], ◌++◌, length, Ok, Err, Some, None, refl, sym, ap, subst, inl, inr, arith, true≢false}
-use Rattle.std.specs.Prelude.{All, Result, replicate, slice_index_or, ◌⊎◌, is_some}
+use Rattle.std.specs.Prelude.{All, Result, map, replicate, slice_index_or, ◌⊎◌, is_some}
 use Rattle.std.specs.declared.option.Option.{Option}
 use Rattle.std.proofs.lemmas.Bool.{cases_Bool}
 use Rattle.std.proofs.lemmas.List.Folds.{list_any-append}
@@ -34,14 +34,17 @@ use Rattle.simp_base.specs.WorkState.{begun as begun_work}
 use Rattle.ruler_simp.specs.declared.ruling.Outcome.{Outcome}
 use Rattle.ruler_simp.specs.declared.ruling.Outcome.TheVariants.{Simplified as LeftOver, Refuted as NoModel}
 use Rattle.ruler_simp.specs.declared.ruling.Simplified.{Simplified}
+use Rattle.ruler_simp.specs.Left.{start_of}
 use Rattle.ruler_simp.specs.Ruled.{IsAnswer, HasVars, Ruled, run_of, origin_of as work_origin}
 use Rattle.ruler_simp.specs.Rounds.{SimplifiedTo}
 use Rattle.ruler_simp.proofs.Telling.{none_made}
 use Rattle.share_core.proofs.Counting.{some_same, none_some}
 use Rattle.share_rule.specs.declared.Layout.{Layout}
 use Rattle.share_rule.specs.Books.{HasLog}
-use Rattle.share_rule.specs.FirstWords.{MayBegin, IsMakeStop}
+use Rattle.share_rule.specs.FirstWords.{MayBegin, IsMakeStop, IsNoHole}
 use Rattle.share_rule.specs.Layout.{InVars}
+use Rattle.share_rule.specs.Tight.{numbered}
+use Rattle.share_rule.proofs.Tightness.{program_no_hole}
 use Rattle.log_book.specs.declared.book.Book.{Book}
 use Rattle.log_book.specs.Ended.{IsClosed}
 use Rattle.log_book.specs.Kept.{HoldsText}
@@ -53,6 +56,7 @@ use Rattle.portfolio_run.specs.declared.plan.Plan.{Plan}
 use Rattle.portfolio_run.specs.Held.{IsHeld, no_counts}
 use Rattle.portfolio_run.specs.Journaled.{IsJournal, IsUnrefuted}
 use Rattle.portfolio_run.specs.Reached.{Records, WasRuled, HasReached, stopped_answer, unmade_answer}
+use Rattle.portfolio_run.specs.Room.{layout_of}
 use Rattle.portfolio_run.specs.Ruled.{schedule_of, IsRuled, IsRuledThrough}
 use Rattle.portfolio_run.specs.Solved.{is_verdict, kind_of, Holds, IsUnsettled, IsReached, IsSolved}
 use Rattle.portfolio_run.proofs.Cuts.{cut_whole, front_of_same, front_told}
@@ -64,9 +68,6 @@ on_variables L spelled k d lt j l less = (spelled k d lt j l less).low
 
 in_vars : (l : Layout) (lits : List Literal) → All (IsOn l.vars) lits → InVars l lits
 in_vars l lits on k d lt = let h = on k d lt in (h.low, h.high)
-
-no_hole : (l : Layout) (ss : List (ℕ × List Literal)) (need most : ℕ) → IsMakeStop l ss (hole_stop.NoHole need most) → most < need
-no_hole l ss need most (front, rest, s, split, n, m, lt) = lt
 
 module _ (plan : Plan) (formula : FormulaData) (old now : LineState) (result : Result Outcome LineStop) (tally : List Counts) (few : formula.vars ≤ 2 ^ 30) (on : All (All (IsOn formula.vars)) formula.clauses)
     (rings : 1 ≤ plan.threads) (some : 1 ≤ plan.conflicts) (none : (tally ≡ []) ⊎ (tally ≡ replicate plan.threads no_counts)) (unspent : old.spent ≡ false) (begins : old.entries ≡ 0) (last_is : old.last ≡ length formula.clauses)
@@ -114,6 +115,10 @@ module _ (plan : Plan) (formula : FormulaData) (old now : LineState) (result : R
     alone = λ _. (all_rulers J rulers).1;
   }
 
+  ruled_vars : ruled.work.vars ≡ vars
+  unfolding ruled
+  ruled_vars = refl
+
   abbrev held : IsHeld plan.threads plan.slots plan.conflicts F J tally
   held = inl (record { rulers = (all_rulers J rulers).1; none = none })
 
@@ -141,14 +146,14 @@ module _ (plan : Plan) (formula : FormulaData) (old now : LineState) (result : R
       }
 
   -- no ring ran, and the ruler came to this kind of stop
-  is_reached : (answer : Answer) (kind : ℕ) → kind_of answer ≡ Some kind → kind ≢ STOP_SAT → Holds plan formula J answer → (is_verdict answer ≡ true → IsRuledThrough formula (schedule_of plan) J) → (kind ≡ STOP_PROOF → Rose old.faults now.faults)
+  is_reached : (answer : Answer) (kind : ℕ) → kind_of answer ≡ Some kind → kind ≢ STOP_SAT → Holds plan vars formula J answer → (is_verdict answer ≡ true → IsRuledThrough formula (schedule_of plan) J) → (kind ≡ STOP_PROOF → Rose old.faults now.faults)
       → (kind ≢ STOP_PROOF → now.faults ≡ old.faults) → IsReached plan formula answer tally old.faults now.faults J
   is_reached answer kind is other holds through rose still = record {
     stands = journal_stands;
     ruled = ruled;
     held = held;
     stop = (λ e. other (some_same kind STOP_SAT (sym is ∙ e)), λ e. none_some kind (sym e ∙ is));
-    holds = holds;
+    holds = subst (λ (n : ℕ). Holds plan n formula J answer) (sym ruled_vars) holds;
     through = through;
     faults_fit = record {
       rose = λ e. rose (some_same kind STOP_PROOF (sym is ∙ e));
@@ -173,26 +178,37 @@ module _ (plan : Plan) (formula : FormulaData) (old now : LineState) (result : R
   pub refuted : result ≡ Ok NoModel → IsReached plan formula Unsat tally old.faults now.faults J
   refuted is = refuted_by is (subst (IsAnswer formula J old now) is was.answer)
 
+  -- a full output has as many lines as the journal has entries
+  full : now.entries ≡ MAX_ENTRIES → MAX_ENTRIES ≤ length J
+  full e = let n = has_lines.entries ∙ rulers_lines (formula_book F) J rulers in omega (arith, e, n)
+
   -- it was stopped
   stopped_by : (why : LineStop) → IsAnswer formula J old now (Err why) → IsReached plan formula (stopped_answer why) tally old.faults now.faults J
   stopped_by line_stop.ProofFault h = is_reached ProofFault STOP_PROOF refl (λ e. absurd (omega arith)) tt (λ e. absurd (true≢false (sym e))) (λ _. h.0) (λ ne. absurd (ne refl))
   stopped_by line_stop.Full h =
-      is_reached (NoHole (record { need = MAX_ENTRIES + 1; largest = MAX_ENTRIES })) STOP_ROOM refl (λ e. absurd (omega arith)) (omega arith, unsettled h.1) (λ e. absurd (true≢false (sym e))) (λ e. absurd (omega arith)) (λ _. h.0.1)
+      is_reached (NoHole (record { need = MAX_ENTRIES + 1; largest = MAX_ENTRIES })) STOP_ROOM refl (λ e. absurd (omega arith)) (inr (inr (full h.0.0, refl, refl)), unsettled h.1) (λ e. absurd (true≢false (sym e))) (λ e. absurd (omega arith)) (λ _. h.0.1)
   stopped_by line_stop.Memory h = is_reached Memory STOP_MEMORY refl (λ e. absurd (omega arith)) (unsettled h.1) (λ e. absurd (true≢false (sym e))) (λ e. absurd (omega arith)) (λ _. h.0)
 
   pub stopped : (why : LineStop) → result ≡ Err why → IsReached plan formula (stopped_answer why) tally old.faults now.faults J
   stopped why is = stopped_by why (subst (IsAnswer formula J old now) is was.answer)
 
+  -- a start clause of the program's opening finds no hole
+  no_hole : (l : Layout) → l ≡ layout_of plan vars → (left : Simplified) → map start_of left.start.items ≡ (program_opening F J).starts → (need most : ℕ) → IsNoHole l left.start.items need most
+      → IsNoHole (layout_of plan vars) (numbered (program_opening F (ruler_part J)).starts) need most
+  no_hole l l_is left same need most h =
+      subst (λ (y : Layout × List Entry). IsNoHole y.0 (numbered (program_opening F y.1).starts) need most) (λ i. (l_is i, sym (all_rulers J rulers).0 i))
+      (program_no_hole F l J left.start.items need most same h)
+
   -- something is left, over which no table could be made
-  unmade_by : (l : Layout) (left : Simplified) → IsAnswer formula J old now (Ok (LeftOver left)) → (why : HoleStop) → IsMakeStop l left.start.items why → IsReached plan formula (unmade_answer why) tally old.faults now.faults J
-  unmade_by l left h (hole_stop.NoHole need most) s =
-      is_reached (NoHole (record { need = need; largest = most })) STOP_ROOM refl (λ e. absurd (omega arith)) (no_hole l left.start.items need most s, unsettled h.0.opens.rulers_part.going) (λ e. absurd (true≢false (sym e)))
+  unmade_by : (l : Layout) → l ≡ layout_of plan vars → (left : Simplified) → IsAnswer formula J old now (Ok (LeftOver left)) → (why : HoleStop) → IsMakeStop l left.start.items why → IsReached plan formula (unmade_answer why) tally old.faults now.faults J
+  unmade_by l l_is left h (hole_stop.NoHole need most) s =
+      is_reached (NoHole (record { need = need; largest = most })) STOP_ROOM refl (λ e. absurd (omega arith)) (inl (no_hole l l_is left h.0.starts need most s), unsettled h.0.opens.rulers_part.going) (λ e. absurd (true≢false (sym e)))
       (λ e. absurd (omega arith)) (λ _. h.1.quiet)
-  unmade_by l left h hole_stop.Memory s =
+  unmade_by l l_is left h hole_stop.Memory s =
       is_reached Memory STOP_MEMORY refl (λ e. absurd (omega arith)) (unsettled h.0.opens.rulers_part.going) (λ e. absurd (true≢false (sym e))) (λ e. absurd (omega arith)) (λ _. h.1.quiet)
 
-  pub unmade : (l : Layout) (left : Simplified) → result ≡ Ok (LeftOver left) → (why : HoleStop) → IsMakeStop l left.start.items why → IsReached plan formula (unmade_answer why) tally old.faults now.faults J
-  unmade l left is why s = unmade_by l left (subst (IsAnswer formula J old now) is was.answer) why s
+  pub unmade : (l : Layout) → l ≡ layout_of plan vars → (left : Simplified) → result ≡ Ok (LeftOver left) → (why : HoleStop) → IsMakeStop l left.start.items why → IsReached plan formula (unmade_answer why) tally old.faults now.faults J
+  unmade l l_is left is why s = unmade_by l l_is left (subst (IsAnswer formula J old now) is was.answer) why s
 
 module _ {S : Type 0} {d : Ghosts S} (written flushed target : S → Option (List ℕ)) (faults : S → ℕ) where
   -- what a book promises that was filled through the bound of a line output
@@ -231,7 +247,7 @@ module _ {S : Type 0} {d : Ghosts S} (written flushed target : S → Option (Lis
 
     -- the layout of a table for these rings over so many variables
     abbrev pub layout_over : ℕ → Layout
-    layout_over vars = record { rings = plan.threads; vars = vars; words = plan.words; depth = plan.slots }
+    layout_over = layout_of plan
 
     lines_are : HasLines (work_origin formula before) rulers_journal left_vars told
     lines_are = has_lines plan formula before told result tally few on rings some (inr none) refl refl refl was.ruled
@@ -286,7 +302,7 @@ module _ {S : Type 0} {d : Ghosts S} (written flushed target : S → Option (Lis
       unmade_book law cut why s = record {
         journal = rulers_journal;
         records = records law cut;
-        reached = unmade plan formula before told result tally few on rings some (inr none) refl refl refl was.ruled table_layout left is why s;
+        reached = unmade plan formula before told result tally few on rings some (inr none) refl refl refl was.ruled table_layout (ap (layout_of plan) vars_are) left is why s;
         asked = asked law;
       }
 

@@ -103,6 +103,7 @@ run_of {B} t first p plan ring s end e pass run shows =
         looks = w.looks;
         ran = subst (λ (x : PortState). RanTo old job x e.0 e.1) same ran;
         ended_is = λ q. shows.ended_is (sym (ap (λ (x : PortState). x.ended) shows.state) ∙ q);
+        refused_is = ap (λ (x : PortState). x.refused) shows.state ∙ shows.refused_is;
         faulty_is = λ q. shows.faulty_is (sym (ap (λ (x : PortState). is_usable x.refused) shows.state) ∙ q);
         alone_is = λ one f. ap (λ (x : PortState). is_usable x.refused) shows.state ∙ shows.alone_is (ap (λ (x : PortState). x.rings) shows.state ∙ ran.stays.rings ∙ one) f;
         set = end_is_set w shows.pass.0.3 shows.one own e.0 (subst (λ (x : PortState). Ends x e.0) (sym shows.state) ran.ends) ∙ ap (λ (r : ℕ). set_of r e.0) ring_is;

@@ -130,5 +130,5 @@ module _ {S : Type 0} {d : Ghosts S} (written flushed target : S → Option (Lis
     pub settled_reached : HasReached written flushed target faults sink plan F answer tally b
     settled_reached =
         concluded written flushed target faults sink plan F h.opened.book h.left t.layout h.opened.origin few on some rings few_rings h.opened.was
-        (ap (λ (l : Layout). l.rings) h.opened.layout_is) (ap (λ (l : Layout). l.vars) h.opened.layout_is) (ap (λ (l : Layout). l.depth) h.opened.layout_is) h.opened.format_is h.opened.faults_are h.opened.target_is h.opened.keeps_are
+        h.opened.layout_is h.opened.format_is h.opened.faults_are h.opened.target_is h.opened.keeps_are
         t h.home p tally answer b s fault stands tells h.first.me.0 (replicate plan.threads no_counts) (ap (λ (x : View × List (ℕ × Option (Book S d))). x.0) h.opened.me) refl h.searched

@@ -5,6 +5,7 @@ pub mod Journaled
 pub mod Noted
 pub mod Ports
 pub mod Reached
+pub mod Room
 pub mod Ruled
 pub mod Runs
 pub mod Searched

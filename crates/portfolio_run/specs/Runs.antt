@@ -8,6 +8,7 @@ use Rattle.share_rule.specs.declared.view.View.{View}
 use Rattle.share_rule.specs.Views.{only}
 use Rattle.ring_port.specs.Port.{is_usable}
 use Rattle.ring_port.specs.PortState.{PortState}
+use Rattle.ring_pass.specs.Refusals.{last_refusal}
 use Rattle.ring_pass.specs.RingState.{Own, port_of, port_with}
 use Rattle.ring_run.specs.declared.job.Counts.{Counts}
 use Rattle.ring_run.specs.declared.job.End.{End}
@@ -25,17 +26,20 @@ pub record Shows {B : Type 0} (t : Shared B) (s : PortState) (end : Option (End 
   pub own : Own
   pub state : port_of p.me.0 own ≡ s
   pub ended_is : s.ended ≡ true → (only p.me.0).ended ≡ true
+  pub refused_is : s.refused ≡ last_refusal (only p.me.0)
   pub faulty_is : is_usable s.refused ≡ false → (only p.me.0).failed ≡ true
   pub alone_is : p.me.0.opening.rings ≡ 1 → (only p.me.0).failed ≡ true → is_usable s.refused ≡ false
   pub end_is : end ≡ Some e
 
 -- the ring ran over the table that was opened so, and came to this end; its part is what its port shows, with what the port
--- kept beside it, the stop that its pass has seen and how often that had looked for one
+-- kept beside it, the stop that its pass has seen and how often that had looked for one; the port was refused last what the part
+-- notes
 pub record RanAs (v : View) (home : List ℕ) (plan : Plan) (ring : ℕ) (seen : Option Stop) (part : RingPart) (end : End) (counts : Counts) : Type 0 where
   pub own : Own
   pub looks : ℕ
   pub ran : RanTo (begun_at v home ring) (job_at v plan ring) (port_with (record v { stop = seen; looks = looks }) part own) end counts
   pub ended_is : own.ended ≡ true → part.ended ≡ true
+  pub refused_is : own.refused ≡ last_refusal part
   pub faulty_is : is_usable own.refused ≡ false → part.failed ≡ true
   pub alone_is : v.opening.rings ≡ 1 → part.failed ≡ true → is_usable own.refused ≡ false
   pub set : part.set ≡ set_of ring end

@@ -21,6 +21,7 @@ use Rattle.portfolio_run.specs.declared.answer.Answer.TheVariants.{Sat, Unsat, U
 use Rattle.portfolio_run.specs.declared.plan.Plan.{Plan}
 use Rattle.portfolio_run.specs.Held.{IsHeld, HasStop}
 use Rattle.portfolio_run.specs.Journaled.{IsJournal, IsUnrefuted, IsCutShort}
+use Rattle.portfolio_run.specs.Room.{HasNoRoom}
 use Rattle.portfolio_run.specs.Ruled.{schedule_of, IsRuled, IsRuledThrough}
 
 -- a value for each variable, which make each clause true
@@ -59,15 +60,15 @@ unfinished (NoHole lack) = NoHole lack
 unfinished ProofFault = ProofFault
 unfinished Memory = Memory
 
--- what the answer says of the formula and the journal: a model; a refutation; each ring has learned its limit of lemmas, each of
--- them new; there was too little room
-abbrev pub Holds : Plan → FormulaData → List Entry → Answer → Type 0
-Holds plan formula journal (Sat model) = IsModel formula model
-Holds plan formula journal Unsat = IsRefutation formula.clauses journal
-Holds plan formula journal Unknown = SpentAll formula.clauses journal plan.threads plan.conflicts
-Holds plan formula journal (NoHole lack) = (lack.largest < lack.need) × IsUnsettled plan.threads plan.conflicts journal
-Holds plan formula journal ProofFault = ⊤
-Holds plan formula journal Memory = IsUnsettled plan.threads plan.conflicts journal
+-- what the answer says of the formula and the journal, if a table is over so many variables: a model; a refutation; each ring has
+-- learned its limit of lemmas, each of them new; there was no room for what came next
+abbrev pub Holds : Plan → ℕ → FormulaData → List Entry → Answer → Type 0
+Holds plan vars formula journal (Sat model) = IsModel formula model
+Holds plan vars formula journal Unsat = IsRefutation formula.clauses journal
+Holds plan vars formula journal Unknown = SpentAll formula.clauses journal plan.threads plan.conflicts
+Holds plan vars formula journal (NoHole lack) = HasNoRoom plan vars formula.clauses journal lack × IsUnsettled plan.threads plan.conflicts journal
+Holds plan vars formula journal ProofFault = ⊤
+Holds plan vars formula journal Memory = IsUnsettled plan.threads plan.conflicts journal
 
 -- the kind of the stop with which the rings come to this answer, and with none if each is spent
 abbrev pub kind_of : Answer → Option ℕ
@@ -85,14 +86,14 @@ pub record FaultsFit (plan : Plan) (formula : FormulaData) (journal : List Entry
   pub calm : kind ≢ Some STOP_PROOF → (searched ≡ before) ⊎ ((2 ≤ plan.threads) × IsRuledThrough formula (schedule_of plan) journal)
 
 -- a search has come to this answer, which holds, over this journal: it begins with what the ruler wrote in the plan's rounds, and the
--- rings' steps leave it, with the stop of this answer; a verdict comes only if the simplifiers came to their end. The sink of the
--- proof had failed this often before the search, and this often by then.
+-- rings' steps leave it, with the stop of this answer; a verdict comes only if the simplifiers came to their end. The table's
+-- variables are those that the ruler left. The sink of the proof had failed this often before the search, and this often by then.
 pub record IsReached (plan : Plan) (formula : FormulaData) (answer : Answer) (tally : List Counts) (before searched : ℕ) (journal : List Entry) : Type 0 where
   pub stands : IsJournal plan.threads formula.clauses journal
   pub ruled : IsRuled formula (schedule_of plan) journal
   pub held : IsHeld plan.threads plan.slots plan.conflicts formula.clauses journal tally
   pub stop : HasStop held (kind_of answer)
-  pub holds : Holds plan formula journal answer
+  pub holds : Holds plan ruled.work.vars formula journal answer
   pub through : is_verdict answer ≡ true → IsRuledThrough formula (schedule_of plan) journal
   pub faults_fit : FaultsFit plan formula journal before searched (kind_of answer)
 

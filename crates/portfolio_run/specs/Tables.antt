@@ -19,6 +19,7 @@ use Rattle.portfolio_run.specs.declared.answer.Answer.{Answer}
 use Rattle.portfolio_run.specs.declared.plan.Plan.{Plan}
 use Rattle.portfolio_run.specs.Held.{no_counts}
 use Rattle.portfolio_run.specs.Reached.{WasRuled}
+use Rattle.portfolio_run.specs.Room.{layout_of}
 use Rattle.portfolio_run.specs.Searched.{HasSearched}
 
 module _ {S : Type 0} {d : Ghosts S} (written flushed target : S → Option (List ℕ)) (faults : S → ℕ) where
@@ -32,7 +33,7 @@ module _ {S : Type 0} {d : Ghosts S} (written flushed target : S → Option (Lis
     pub faults_are : origin.faults ≡ faults sink
     pub target_is : origin.target ≡ target sink
     pub keeps_are : origin.keeps ≡ plan.keep_lines
-    pub layout_is : t.layout ≡ record { rings = plan.threads; vars = left.vars; words = plan.words; depth = plan.slots }
+    pub layout_is : t.layout ≡ layout_of plan left.vars
     pub pass : IsPassOf t p
     pub me : p.me ≡ (first_view t.layout (begun_with formula.clauses t.layout was.ruled.journal left.start.items left.units.items) origin, [])
     pub cells_are : cells ≡ addresses p.me.0.opening.starts

@@ -20,7 +20,7 @@ mod OffersSeen
 mod OtherRings
 mod PollsHere
 mod RingPorts
-mod RoomHere
+pub mod RoomHere
 mod Scans
 mod SeenHere
 mod Stays

@@ -32,7 +32,8 @@ lack_in d (Some (port.NoHole lack)) = lack
 lack_in d (Some port.Memory) = d
 lack_in d (Some port.ProofFault) = d
 
-noted_room : (x : Option Refusal) (lack : NoRoom) → option_map answer_noted x ≡ Some (port.NoHole lack) → x ≡ Some (note.NoHole lack.need lack.largest)
+-- a noted refusal that is answered as a want of room is one
+pub noted_room : (x : Option Refusal) (lack : NoRoom) → option_map answer_noted x ≡ Some (port.NoHole lack) → x ≡ Some (note.NoHole lack.need lack.largest)
 noted_room None lack e = absurd (true≢false (ap wants (sym e)))
 noted_room (Some note.Ended) lack e = absurd (true≢false (ap wants (sym e)))
 noted_room (Some note.Broken) lack e = absurd (true≢false (ap wants (sym e)))

@@ -1,5 +1,5 @@
 -- Want of room: the clause that comes next needs more words than the longest free range has.
-use Rattle.std.specs.Prelude.{◌≡◌, ◌⊎◌, ℕ, ◌+◌, ◌<◌, ◌≤◌, true, List, ◌++◌, length, Some}
+use Rattle.std.specs.Prelude.{◌≡◌, ◌⊎◌, ℕ, ◌+◌, ◌<◌, ◌≤◌, true, List, map, ◌++◌, length, Some}
 use Rattle.sat_words.specs.Literal.{Literal}
 use Rattle.sat_words.specs.Clause.{includes}
 use Rattle.sat_words.specs.declared.shared.TheConstants.{MAX_ENTRIES}
@@ -9,10 +9,11 @@ use Rattle.rup_model.specs.declared.journal.Entry.{Entry}
 use Rattle.rup_model.specs.Rup.{rup}
 use Rattle.rup_model.specs.Log.{alive}
 use Rattle.rup_model.specs.Journal.{book, lines, fresh}
-use Rattle.rup_model.specs.Opening.{IsLong, start_clauses}
+use Rattle.rup_model.specs.Opening.{Start, IsLong, start_clauses, program_opening}
 use Rattle.share_core.specs.declared.part.CoreOpening.{CoreOpening}
 use Rattle.share_core.specs.State.{opening_of}
 use Rattle.share_rule.specs.declared.Layout.{Layout}
+use Rattle.share_rule.specs.FirstWords.{begun_with}
 use Rattle.share_rule.specs.Layout.{InVars}
 use Rattle.share_rule.specs.Room.{room}
 
@@ -46,3 +47,12 @@ abbrev pub IsTight : Layout → CoreOpening → List Entry → ℕ → ℕ → T
 IsTight l o J need most =
     ((front rest : List Entry) × (J ≡ front ++ rest) × (length o.journal ≤ length front) × IsTightAt l o front need most)
     ⊎ ((MAX_ENTRIES ≤ length J) × (need ≡ MAX_ENTRIES + 1) × (most ≡ MAX_ENTRIES))
+
+-- the start clauses, each with its number
+abbrev pub numbered : List Start → List (ℕ × List Literal)
+numbered ss = map (λ (s : Start). (s.number, s.lits)) ss
+
+-- what rings over this layout start from after the ruler's journal, if nothing is chosen: the start clauses and the units of the
+-- program's opening
+abbrev pub program_core : List (List Literal) → Layout → List Entry → CoreOpening
+program_core F l J0 = begun_with F l J0 (numbered (program_opening F J0).starts) (program_opening F J0).units

@@ -48,6 +48,7 @@ pub use passes::{join, split};
 pub use plays::{Drops, Grants, Loads, Looks, Opens, Shares, Stores};
 pub use room_laws::{
     a_noted_want_of_room_is_one, a_turn_without_a_hole_is_tight, longer_journals_stay_tight,
+    the_room_is_of_the_starts,
 };
 pub use rule::{Key, Pass, Rule};
 use std::alloc::Global;

@@ -7,7 +7,7 @@ ghost use Rattle.clause_cell.specs.Packing.{words_for};
 ghost use Rattle.clause_cell.specs.Free.{largest};
 ghost use Rattle.rup_model.specs.declared.journal.Entry.{Entry};
 ghost use Rattle.rup_model.specs.declared.journal.Kind.{Kind};
-ghost use Rattle.rup_model.specs.Opening.{IsLong};
+ghost use Rattle.rup_model.specs.Opening.{IsLong, program_opening};
 ghost use Rattle.share_core.specs.declared.part.CoreOpening.{CoreOpening};
 ghost use Rattle.share_core.specs.Learning.{follows, MayAddClause};
 ghost use Rattle.share_rule.specs.declared.Layout.{Layout};
@@ -15,11 +15,12 @@ ghost use Rattle.share_rule.specs.declared.note.Note.{Note};
 ghost use Rattle.share_rule.specs.declared.view.Refusal.TheVariants.{NoHole};
 ghost use Rattle.share_rule.specs.declared.view.RingPart.{RingPart};
 ghost use Rattle.share_rule.specs.declared.view.View.{View};
+ghost use Rattle.share_rule.specs.FirstWords.{begun_with, starts_of, IsNoHole};
 ghost use Rattle.share_rule.specs.Layout.{InVars};
 ghost use Rattle.share_rule.specs.Room.{room};
 ghost use Rattle.share_rule.specs.Seen.{Seen};
 ghost use Rattle.share_rule.specs.Shown.{ring_of};
-ghost use Rattle.share_rule.specs.Tight.{IsTight};
+ghost use Rattle.share_rule.specs.Tight.{IsTight, numbered, program_core};
 ghost use Rattle.share_rule.specs.Turns.{IsWriting, MayWrite, written_of};
 ghost use Rattle.share_rule.specs.Views.{only};
 
@@ -40,4 +41,12 @@ pub fn a_turn_without_a_hole_is_tight()
 /// What a ring's part notes as a want of room was one, after a front of the journal of each core that its pass sees.
 pub fn a_noted_want_of_room_is_one()
     ensures { (v : View) (s : Seen v) (i : ℕ) (p : RingPart) (need most : ℕ) → get_elem? v.parts i ≡ some p → p.refused ≡ Some (NoHole need most) → IsTight v.layout s.core.opening s.core.journal need most }
+{}
+
+/// Room depends on the start clauses, and on nothing else of an opening: if these are the program's, it is wanted after the program's opening.
+pub fn the_room_is_of_the_starts()
+    ensures tight { (F : List (List Literal)) (l : Layout) (J0 J : List Entry) (ss : List (ℕ × List Literal)) (us : List Literal) (need most : ℕ)
+        → starts_of ss ≡ (program_opening F J0).starts → IsTight l (begun_with F l J0 ss us) J need most → IsTight l (program_core F l J0) J need most }
+    ensures hole { (F : List (List Literal)) (l : Layout) (J0 : List Entry) (ss : List (ℕ × List Literal)) (need most : ℕ)
+        → starts_of ss ≡ (program_opening F J0).starts → IsNoHole l ss need most → IsNoHole l (numbered (program_opening F J0).starts) need most }
 {}

@@ -60,15 +60,15 @@ unread plan text source out f0 f1 w0 w1 fl0 fl1 result quiet empty same cause fl
 -- ---- the answer of the rings
 
 -- an answer that is a verdict holds, in a run in which the simplifiers came to their end
-found_verdict : (plan : SearchPlan) (F : FormulaData) (J : List Entry) (found : Answer) (occurring : List Bool) → IsOccurring F.clauses F.vars occurring → is_verdict found ≡ true → Holds plan F J found → IsRuledThrough F (schedule_of plan) J
+found_verdict : (plan : SearchPlan) (vars : ℕ) (F : FormulaData) (J : List Entry) (found : Answer) (occurring : List Bool) → IsOccurring F.clauses F.vars occurring → is_verdict found ≡ true → Holds plan vars F J found → IsRuledThrough F (schedule_of plan) J
     → IsVerdictKind (kind_of found) plan F J
-found_verdict plan F J (Sat model) occurring occurs is holds ruled =
+found_verdict plan vars F J (Sat model) occurring occurs is holds ruled =
     record { decided = record { verdict = Satisfiable (both occurring model); decides = record { holds = cleared F occurring model (both occurring model) holds occurs (has_both occurring model); ruled = ruled } }; kind_is = refl }
-found_verdict plan F J Unsat occurring occurs is holds ruled = record { decided = record { verdict = Unsatisfiable; decides = record { holds = holds; ruled = ruled } }; kind_is = refl }
-found_verdict plan F J answer.Unknown occurring occurs is holds ruled = record { decided = record { verdict = Unknown; decides = record { holds = holds; ruled = ruled } }; kind_is = refl }
-found_verdict plan F J (NoHole lack) occurring occurs is holds ruled = absurd (let no : ⊥ = cc in no)
-found_verdict plan F J answer.ProofFault occurring occurs is holds ruled = absurd (let no : ⊥ = cc in no)
-found_verdict plan F J answer.Memory occurring occurs is holds ruled = absurd (let no : ⊥ = cc in no)
+found_verdict plan vars F J Unsat occurring occurs is holds ruled = record { decided = record { verdict = Unsatisfiable; decides = record { holds = holds; ruled = ruled } }; kind_is = refl }
+found_verdict plan vars F J answer.Unknown occurring occurs is holds ruled = record { decided = record { verdict = Unknown; decides = record { holds = holds; ruled = ruled } }; kind_is = refl }
+found_verdict plan vars F J (NoHole lack) occurring occurs is holds ruled = absurd (let no : ⊥ = cc in no)
+found_verdict plan vars F J answer.ProofFault occurring occurs is holds ruled = absurd (let no : ⊥ = cc in no)
+found_verdict plan vars F J answer.Memory occurring occurs is holds ruled = absurd (let no : ⊥ = cc in no)
 
 -- an answer that is no fault of the proof is that of the search
 told_found : (found a : Answer) (before faults : ℕ) → IsTold found a before faults → a ≢ answer.ProofFault → a ≡ found
@@ -86,21 +86,21 @@ told_found found a before faults t other = elim t.ends [
     by answer.Memory e = e
 
 -- a verdict that an answer comes to holds, and is of its kind
-decided : (plan : SearchPlan) (F : FormulaData) (J : List Entry) (a : Answer) (occurring : List Bool) (result : Result SearchVerdict CallEnd) (verdict : SearchVerdict)
-    → IsOccurring F.clauses F.vars occurring → IsVerdictOf occurring a result → result ≡ Ok verdict → Holds plan F J a → (is_verdict a ≡ true → IsRuledThrough F (schedule_of plan) J)
+decided : (plan : SearchPlan) (vars : ℕ) (F : FormulaData) (J : List Entry) (a : Answer) (occurring : List Bool) (result : Result SearchVerdict CallEnd) (verdict : SearchVerdict)
+    → IsOccurring F.clauses F.vars occurring → IsVerdictOf occurring a result → result ≡ Ok verdict → Holds plan vars F J a → (is_verdict a ≡ true → IsRuledThrough F (schedule_of plan) J)
     → (kind_of a ≡ verdict_kind verdict) × Decides plan F J verdict
-decided plan F J (Sat model) occurring result verdict occurs is ok holds ruled =
+decided plan vars F J (Sat model) occurring result verdict occurs is ok holds ruled =
     let same : Satisfiable is.model ≡ verdict = let e : Ok (Satisfiable is.model) ≡ result = sym is.is in cc in
     (ap verdict_kind same, subst (Decides plan F J) same (record { holds = cleared F occurring model is.model holds occurs is.both; ruled = ruled refl }))
-decided plan F J Unsat occurring result verdict occurs is ok holds ruled =
+decided plan vars F J Unsat occurring result verdict occurs is ok holds ruled =
     let same : Unsatisfiable ≡ verdict = cc in
     (ap verdict_kind same, subst (Decides plan F J) same (record { holds = holds; ruled = ruled refl }))
-decided plan F J answer.Unknown occurring result verdict occurs is ok holds ruled =
+decided plan vars F J answer.Unknown occurring result verdict occurs is ok holds ruled =
     let same : Unknown ≡ verdict = cc in
     (ap verdict_kind same, subst (Decides plan F J) same (record { holds = holds; ruled = ruled refl }))
-decided plan F J (NoHole lack) occurring result verdict occurs is ok holds ruled = absurd (let no : ⊥ = cc in no)
-decided plan F J answer.ProofFault occurring result verdict occurs is ok holds ruled = absurd (let no : ⊥ = cc in no)
-decided plan F J answer.Memory occurring result verdict occurs is ok holds ruled = absurd (let no : ⊥ = cc in no)
+decided plan vars F J (NoHole lack) occurring result verdict occurs is ok holds ruled = absurd (let no : ⊥ = cc in no)
+decided plan vars F J answer.ProofFault occurring result verdict occurs is ok holds ruled = absurd (let no : ⊥ = cc in no)
+decided plan vars F J answer.Memory occurring result verdict occurs is ok holds ruled = absurd (let no : ⊥ = cc in no)
 
 -- an answer with a verdict is one
 verdict_is : (a : Answer) (occurring : List Bool) (result : Result SearchVerdict CallEnd) (verdict : SearchVerdict) → IsVerdictOf occurring a result → result ≡ Ok verdict → is_verdict a ≡ true
@@ -127,34 +127,36 @@ log_of format F J a searched faults flushed written f = record {
   front = λ none. f.front (λ (rose : Rose 0 searched). absurd (omega (arith, none, rose)));
 }
 
--- the rings were to start
+-- the rings were to start, and the search's answer holds over the variables that were left
 started : (plan : CallPlan) (text : Option (List ℕ)) (source : FaultCount) (out : Output) (F : FormulaData) (a : Answer) (counts : List Counts) (tally : Tally) (faults : ℕ) (flushed written : Option (List ℕ)) (kept : Option (List Line))
     → (s : IsSolved plan.search F a counts 0 faults flushed written kept) → WasGiven plan.make text F → IsStill source
     → tally ≡ rings_tally (each_counted plan.search.threads counts) no_lack
-    → IsStarted (kind_of s.found) no_lack F s.journal tally (record { plan = plan; text = text; source = source; proof = Some (record { faults = faults; written = written; flushed = flushed }); out = out })
+    → (started : IsStarted (kind_of s.found) no_lack F s.journal tally (record { plan = plan; text = text; source = source; proof = Some (record { faults = faults; written = written; flushed = flushed }); out = out })) × Holds plan.search started.ruled.work.vars F s.journal s.found
 started plan text source out F a counts tally faults flushed written kept s given still is =
     let rings : ℕ = plan.search.threads in
     let slots : ℕ = plan.search.slots in
     let limit : ℕ = plan.search.conflicts in
     let held = held_each rings slots limit F.clauses s.journal counts s.reached.held in
-    let long = long_each rings counts (sizes rings slots limit F.clauses s.journal counts s.reached.held) in
-    record {
-      given = given;
-      source = still;
-      journal_stands = s.reached.stands;
-      ruled = s.reached.ruled;
-      counts = each_counted rings counts;
-      held = held;
-      stop = stop_each rings slots limit F.clauses s.journal counts s.reached.held (kind_of s.found) s.reached.stop;
-      searched = s.searched;
-      faults_fit = s.reached.faults_fit;
-      log = log_of plan.search.format F s.journal a s.searched faults flushed written s.finished;
-      tally_is = is;
-      learned = subst (λ (t : Tally). AreLearned rings limit s.journal t.learned) (sym is) (are_learned rings slots limit F.clauses s.journal (each_counted rings counts) held long);
-    }
+    let long = long_each rings counts (sizes rings slots limit F.clauses s.journal counts s.reached.held) in (
+      record {
+        given = given;
+        source = still;
+        journal_stands = s.reached.stands;
+        ruled = s.reached.ruled;
+        counts = each_counted rings counts;
+        held = held;
+        stop = stop_each rings slots limit F.clauses s.journal counts s.reached.held (kind_of s.found) s.reached.stop;
+        searched = s.searched;
+        faults_fit = s.reached.faults_fit;
+        log = log_of plan.search.format F s.journal a s.searched faults flushed written s.finished;
+        tally_is = is;
+        learned = subst (λ (t : Tally). AreLearned rings limit s.journal t.learned) (sym is) (are_learned rings slots limit F.clauses s.journal (each_counted rings counts) held long);
+      },
+      s.reached.holds,
+    )
 
 -- with what there was no room for
-with_lack : (kind : Option ℕ) (lack : NoRoom) (F : FormulaData) (J : List Entry) (tally : Tally) (run : Run) → IsStarted kind no_lack F J tally run → IsStarted kind lack F J (noted (Room lack) tally) run
+abbrev with_lack : (kind : Option ℕ) (lack : NoRoom) (F : FormulaData) (J : List Entry) (tally : Tally) (run : Run) → IsStarted kind no_lack F J tally run → IsStarted kind lack F J (noted (Room lack) tally) run
 with_lack kind lack F J tally run s = record {
   given = s.given;
   source = s.source;
@@ -171,17 +173,17 @@ with_lack kind lack F J tally run s = record {
 }
 
 -- a fault of the proof is that of the search, or comes after a verdict
-fault_found : (plan : SearchPlan) (F : FormulaData) (J : List Entry) (found : Answer) (occurring : List Bool) (faults : ℕ) → IsOccurring F.clauses F.vars occurring → IsTold found answer.ProofFault 0 faults → Holds plan F J found
+fault_found : (plan : SearchPlan) (vars : ℕ) (F : FormulaData) (J : List Entry) (found : Answer) (occurring : List Bool) (faults : ℕ) → IsOccurring F.clauses F.vars occurring → IsTold found answer.ProofFault 0 faults → Holds plan vars F J found
     → (is_verdict found ≡ true → IsRuledThrough F (schedule_of plan) J) → (kind_of found ≡ Some STOP_PROOF) ⊎ IsVerdictKind (kind_of found) plan F J
-fault_found plan F J (Sat model) occurring faults occurs t holds ruled = inr (found_verdict plan F J (Sat model) occurring occurs refl holds (ruled refl))
-fault_found plan F J Unsat occurring faults occurs t holds ruled = inr (found_verdict plan F J Unsat occurring occurs refl holds (ruled refl))
-fault_found plan F J answer.Unknown occurring faults occurs t holds ruled = inr (found_verdict plan F J answer.Unknown occurring occurs refl holds (ruled refl))
-fault_found plan F J (NoHole lack) occurring faults occurs t holds ruled = elim t.ends [
+fault_found plan vars F J (Sat model) occurring faults occurs t holds ruled = inr (found_verdict plan vars F J (Sat model) occurring occurs refl holds (ruled refl))
+fault_found plan vars F J Unsat occurring faults occurs t holds ruled = inr (found_verdict plan vars F J Unsat occurring occurs refl holds (ruled refl))
+fault_found plan vars F J answer.Unknown occurring faults occurs t holds ruled = inr (found_verdict plan vars F J answer.Unknown occurring occurs refl holds (ruled refl))
+fault_found plan vars F J (NoHole lack) occurring faults occurs t holds ruled = elim t.ends [
   | inl e ↦ absurd (let no : ⊥ = cc in no)
   | inr h ↦ absurd (let e = h.0 in let no : ⊥ = cc in no)
 ]
-fault_found plan F J answer.ProofFault occurring faults occurs t holds ruled = inl refl
-fault_found plan F J answer.Memory occurring faults occurs t holds ruled = elim t.ends [
+fault_found plan vars F J answer.ProofFault occurring faults occurs t holds ruled = inl refl
+fault_found plan vars F J answer.Memory occurring faults occurs t holds ruled = elim t.ends [
   | inl e ↦ absurd (let no : ⊥ = cc in no)
   | inr h ↦ absurd (let e = h.0 in let no : ⊥ = cc in no)
 ]
@@ -197,7 +199,7 @@ fault_rose plan F J found searched faults t fit later = elim t.ends [
 stopped : (end : CallEnd) (plan : CallPlan) (text : Option (List ℕ)) (source : FaultCount) (out : Output) (F : FormulaData) (a : Answer) (counts : List Counts) (faults : ℕ) (flushed written : Option (List ℕ)) (kept : Option (List Line))
     (occurring : List Bool) (result : Result SearchVerdict CallEnd) (before tally : Tally) → IsOccurring F.clauses F.vars occurring
     → IsVerdictOf occurring a result → result ≡ Err end → (s : IsSolved plan.search F a counts 0 faults flushed written kept) → tally ≡ noted end before → IsStill out.faults
-    → IsStarted (kind_of s.found) no_lack F s.journal before (record { plan = plan; text = text; source = source; proof = Some (record { faults = faults; written = written; flushed = flushed }); out = out })
+    → (started : IsStarted (kind_of s.found) no_lack F s.journal before (record { plan = plan; text = text; source = source; proof = Some (record { faults = faults; written = written; flushed = flushed }); out = out })) × Holds plan.search started.ruled.work.vars F s.journal s.found
     → RunOutcome end F s.journal tally (record { plan = plan; text = text; source = source; proof = Some (record { faults = faults; written = written; flushed = flushed }); out = out })
 stopped end plan text source out F a counts faults flushed written kept occurring result before tally occurs is err s noted_is still began = by a is s.told
   where
@@ -207,8 +209,12 @@ stopped end plan text source out F a counts faults flushed written kept occurrin
     as_end : (e : CallEnd) → e ≡ end → RunOutcome e F s.journal (noted e before) run → RunOutcome end F s.journal tally run
     as_end e same o = subst (λ (t : Tally). RunOutcome end F s.journal t run) (sym noted_is) (subst (λ (x : CallEnd). RunOutcome x F s.journal (noted x before) run) same o)
 
-    at_kind : (b : Answer) → b ≡ s.found → IsStarted (kind_of b) no_lack F s.journal before run × Holds plan.search F s.journal b
-    at_kind b same = subst (λ (x : Answer). IsStarted (kind_of x) no_lack F s.journal before run × Holds plan.search F s.journal x) (sym same) (began, s.reached.holds)
+    -- the rings were to start, and this answer holds
+    Began : Answer → Type 0
+    Began b = (started : IsStarted (kind_of b) no_lack F s.journal before run) × Holds plan.search started.ruled.work.vars F s.journal b
+
+    at_kind : (b : Answer) → b ≡ s.found → Began b
+    at_kind b same = subst Began (sym same) began
 
     later : s.searched ≤ faults
     later = let g = s.finished.grown in omega (arith, g)
@@ -219,11 +225,11 @@ stopped end plan text source out F a counts faults flushed written kept occurrin
     by answer.Unknown i t = absurd (let no : ⊥ = cc in no)
     by (NoHole lack) i t =
         let k = at_kind (NoHole lack) (told_found s.found (NoHole lack) 0 faults t (λ e. cc e)) in
-        as_end (Room lack) (let e : Room lack ≡ end = cc in e) (record { started = with_lack (Some STOP_ROOM) lack F s.journal before run k.0; short = k.1.0; unsettled = k.1.1 })
+        as_end (Room lack) (let e : Room lack ≡ end = cc in e) (record { started = with_lack (Some STOP_ROOM) lack F s.journal before run k.0; room = k.1.0; unsettled = k.1.1 })
     by answer.ProofFault i t = as_end ProofFault (let e : ProofFault ≡ end = cc in e) (record {
       kind = kind_of s.found;
-      started = began;
-      failed = fault_found plan.search F s.journal s.found occurring faults occurs t s.reached.holds s.reached.through;
+      started = began.0;
+      failed = fault_found plan.search s.reached.ruled.work.vars F s.journal s.found occurring faults occurs t s.reached.holds s.reached.through;
       rose = fault_rose plan.search F s.journal s.found s.searched faults t s.reached.faults_fit later;
     })
     by answer.Memory i t =
@@ -274,14 +280,15 @@ verdict_run plan text source out F a counts f0 faults flushed written kept befor
     let s : IsSolved plan.search F a counts 0 faults flushed written kept = subst (λ (n : ℕ). IsSolved plan.search F a counts n faults flushed written kept) none solved in
     let v : is_verdict a ≡ true = verdict_is a occurring result verdict of_answer ok in
     let same : a ≡ s.found = told_found s.found a 0 faults s.told (sound_verdict a v) in
-    let holds : Holds plan.search F s.journal a = subst (Holds plan.search F s.journal) (sym same) s.reached.holds in
-    let h = decided plan.search F s.journal a occurring result verdict occurs of_answer ok holds (λ e. s.reached.through (sym (ap is_verdict same) ∙ e)) in
+    let vars : ℕ = s.reached.ruled.work.vars in
+    let holds : Holds plan.search vars F s.journal a = subst (Holds plan.search vars F s.journal) (sym same) s.reached.holds in
+    let h = decided plan.search vars F s.journal a occurring result verdict occurs of_answer ok holds (λ e. s.reached.through (sym (ap is_verdict same) ∙ e)) in
     let began = started plan text source out F a counts tally faults flushed written kept s given still (told plan.search F a counts faults flushed written kept before tally s zeros is) in
     record {
       formula = F;
       journal = s.journal;
       outcome = finished verdict end plan F s.journal tally text source out (record { faults = faults; written = written; flushed = flushed }) (s.told.quiet v) h.1 finishes
-          (subst (λ (k : Option ℕ). IsStarted k no_lack F s.journal tally run) (sym (ap kind_of same) ∙ h.0) began);
+          (subst (λ (k : Option ℕ). IsStarted k no_lack F s.journal tally run) (sym (ap kind_of same) ∙ h.0) began.0);
     }
 
 -- none was

@@ -1,5 +1,5 @@
 -- What each end of a call says, by cases, of the formula that was read or made and of the one journal of the run.
-use Rattle.std.specs.Prelude.{◌≡◌, ◌<◌, ◌⊎◌, ℕ, List, [], true, is_some, IfSome, IsSome, IsSomeAnd, Some, None}
+use Rattle.std.specs.Prelude.{◌≡◌, ◌⊎◌, ℕ, List, [], true, is_some, IfSome, IsSome, IsSomeAnd, Some, None}
 use Rattle.std.specs.declared.option.Option.{Option}
 use Rattle.io_edge.specs.Causes.{Rose}
 use Rattle.io_edge.specs.Paths.{IsEmptyWhereTold}
@@ -11,6 +11,7 @@ use Rattle.ring_run.specs.declared.job.Counts.{Counts}
 use Rattle.portfolio_run.specs.declared.plan.Plan.{Plan as SearchPlan}
 use Rattle.portfolio_run.specs.Held.{IsHeld, HasStop}
 use Rattle.portfolio_run.specs.Journaled.{IsJournal}
+use Rattle.portfolio_run.specs.Room.{HasNoRoom}
 use Rattle.portfolio_run.specs.Ruled.{schedule_of, IsRuled}
 use Rattle.portfolio_run.specs.Solved.{IsUnsettled, FaultsFit}
 use Rattle.dimacs_read.specs.Codes.{number_of}
@@ -112,11 +113,13 @@ pub record IsUnproved (formula : FormulaData) (journal : List Entry) (tally : Ta
   pub failed : (kind ≡ Some STOP_PROOF) ⊎ IsVerdictKind kind run.plan.search formula journal
   pub rose : IsSomeAnd run.proof (λ writer. Rose 0 writer.faults)
 
--- there was too little room, for which the search stopped: for a clause, or for one line more of the log. A ring has fewer lemmas
--- than it may learn, and neither it nor the ruler has added the empty clause. The tally has what was needed and what there was.
+-- there was no room, for which the search stopped: for a start clause, for a clause that might come next after a front of the
+-- journal, or for one entry more of a full one. All clauses lie in the words that were asked for as the journal has it, in a table
+-- over the variables that the ruler left. A ring has fewer lemmas than it may learn, and neither it nor the ruler has added the
+-- empty clause. The tally has what was needed and what there was.
 pub record IsCrowded (lack : NoRoom) (formula : FormulaData) (journal : List Entry) (tally : Tally) (run : Run) : Type 0 where
   pub started : IsStarted (Some STOP_ROOM) lack formula journal tally run
-  pub short : lack.largest < lack.need
+  pub room : HasNoRoom run.plan.search started.ruled.work.vars formula.clauses journal lack
   pub unsettled : IsUnsettled run.plan.search.threads run.plan.search.conflicts journal
 
 -- memory ran out in the search, before a verdict: a ring has fewer lemmas than it may learn, and neither it nor the ruler has added

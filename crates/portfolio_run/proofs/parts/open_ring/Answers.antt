@@ -10,6 +10,7 @@ returns g c =
       own = e.state.0;
       state = e.state.1;
       ended_is = e.ended;
+      refused_is = e.refused;
       faulty_is = e.faulty;
       alone_is = e.alone;
       end_is = c.unwrap.ensures;

@@ -200,17 +200,6 @@ module _ {B : Type 0} (t : Shared B) (s : PortState) (v : View) (r : ℕ) (home 
 pub home_left : {B : Type 0} (t : Shared B) (s m u : PortState) → IsHome t s → Stays s m → Stays m u → IsHome t u
 home_left t s m u h a b = λ p pass. b.home ∙ a.home ∙ h p pass
 
-pub opened : {B : Type 0} (t : Shared B) (o : CoreOpening) (cs : List Cref) (F : List (List Literal)) (ss : List (ℕ × List Literal)) (us : List Literal) (rings vars words depth : ℕ)
-    → t.layout ≡ record { rings = rings; vars = vars; words = words; depth = depth } → o ≡ begun_with F t.layout [] ss us → cs ≡ addresses o.starts → rings ≡ 2 → vars ≡ 3 → 1 ≤ depth → ss ≡ four → BeginsWithFour t o cs
-opened t o cs F ss us rings vars words depth layout is cells two three_vars some starts_are = record {
-  from = first_cell t.layout;
-  starts = ap (λ (x : CoreOpening). x.starts) is ∙ ap (starts_at (first_cell t.layout)) starts_are;
-  rings = ap (λ (x : CoreOpening). x.rings) is ∙ ap (λ (m : Layout). m.rings) layout ∙ two;
-  depth = subst (λ (n : ℕ). 1 ≤ n) (sym (ap (λ (x : CoreOpening). x.depth) is ∙ ap (λ (m : Layout). m.depth) layout)) some;
-  vars = ap (λ (m : Layout). m.vars) layout ∙ three_vars;
-  cells = cells;
-}
-
 -- if both rings have begun, none is left to begin
 pub all_begun : {B : Type 0} (t : Shared B) (p : Seat (Option B) View) → IsFirst t p 2 → p.me.0.opening.rings ≡ 2 → p.me.0.parts ≡ [] → IsGathered t p 2
 all_begun t p h rings none_yet = record {

@@ -11,6 +11,7 @@ mod decide;
 mod laws;
 mod message;
 mod occurring;
+mod options;
 mod plan;
 mod remarks;
 mod report;

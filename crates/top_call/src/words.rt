@@ -1,40 +1,19 @@
 // The arguments of the command line.
 ghost use Rattle.std.specs.Prelude.{◌≡◌, ◌≤◌, ◌^◌, ◌↔◌, false, map, string_bytes, IfOk, IfErr, IsErrOf, Some, None};
-ghost use Rattle.clap.specs.Words.{app_of, found_of, rows_of, rule_of};
+ghost use Rattle.clap.specs.Words.{app_of, found_of, rows_of};
 ghost use Rattle.clap.specs.declared.error.kind.ErrorKind.TheVariants.{OutOfMemory};
 ghost use Rattle.top_call.specs.Ends.{IsWordsEnd};
 ghost use Rattle.top_call.specs.Planned.{IsInRange, search_of};
-ghost use Rattle.top_call.specs.Words.{HasThreads, HasLimit, HasWords, HasSlots, HasSeed, HasWalk, HasMade, asked_by, command_in, command_of, unless_both, solver_app, conflicts_rule, threads_rule, words_rule, slots_rule, seed_rule, walk_rule, proof_rule, binary_rule, no_simplify_rule, add_rule, check_rule, make_rule, file_rule};
+ghost use Rattle.top_call.specs.Words.{HasThreads, HasLimit, HasWords, HasSlots, HasSeed, HasWalk, HasMade, asked_by, command_in, command_of, unless_both, solver_app};
 
+use crate::options::{
+    add_arg, binary_arg, check_arg, conflicts_arg, file_arg, make_arg, no_simplify_arg, proof_arg,
+    seed_arg, slots_arg, threads_arg, walk_arg, words_arg,
+};
 use crate::report::CallEnd;
-use clap::builder::ValueParser;
+use clap::ArgMatches;
 use clap::error::ErrorKind;
-use clap::{Arg, ArgAction, ArgMatches};
 use std::alloc::{AllocError, Global};
-
-/// The most rings.
-const MOST_THREADS: u64 = 16;
-
-/// The fewest words for clauses.
-const LEAST_WORDS: u64 = 64;
-
-/// The most words for clauses.
-const MOST_WORDS: u64 = 1 << 31;
-
-/// The most slots that each two rings have for each class of clauses.
-const MOST_SLOTS: u64 = 16;
-
-/// The most lemmas that a ring may be allowed to learn.
-const MOST_CONFLICTS: u64 = 1_000_000_000_000;
-
-/// The greatest seed.
-const MOST_SEED: u64 = (1 << 63) - 1;
-
-/// The most steps of a walk.
-const MOST_WALK: u64 = 1_000_000_000;
-
-/// The greatest number of a formula that can be made.
-const MOST_MADE: u64 = (1 << 63) - 1;
 
 /// What the arguments ask for.
 #[derive(Clone, Copy)]
@@ -65,132 +44,6 @@ pub struct Command<'a> {
     pub make: Option<u64>,
     /// The path of the input, if it is not standard input.
     pub file: Option<&'a str>,
-}
-
-fn conflicts_arg<'a>(alloc: Global) -> Arg<'a>
-    ensures rule { rule_of result ≡ conflicts_rule }
-    ensures local { result.global ≡ false }
-{
-    Arg::new(alloc, "conflicts")
-        .long("conflicts")
-        .action(ArgAction::Set)
-        .value_parser(ValueParser::unsigned(1, MOST_CONFLICTS))
-        .default_value("1000000000")
-}
-
-fn threads_arg<'a>(alloc: Global) -> Arg<'a>
-    ensures rule { rule_of result ≡ threads_rule }
-    ensures local { result.global ≡ false }
-{
-    Arg::new(alloc, "threads")
-        .long("threads")
-        .action(ArgAction::Set)
-        .value_parser(ValueParser::unsigned(1, MOST_THREADS))
-        .default_value("4")
-}
-
-fn words_arg<'a>(alloc: Global) -> Arg<'a>
-    ensures rule { rule_of result ≡ words_rule }
-    ensures local { result.global ≡ false }
-{
-    Arg::new(alloc, "words")
-        .long("words")
-        .action(ArgAction::Set)
-        .value_parser(ValueParser::unsigned(LEAST_WORDS, MOST_WORDS))
-        .default_value("16777216")
-}
-
-fn slots_arg<'a>(alloc: Global) -> Arg<'a>
-    ensures rule { rule_of result ≡ slots_rule }
-    ensures local { result.global ≡ false }
-{
-    Arg::new(alloc, "slots")
-        .long("slots")
-        .action(ArgAction::Set)
-        .value_parser(ValueParser::unsigned(1, MOST_SLOTS))
-        .default_value("1")
-}
-
-fn seed_arg<'a>(alloc: Global) -> Arg<'a>
-    ensures rule { rule_of result ≡ seed_rule }
-    ensures local { result.global ≡ false }
-{
-    Arg::new(alloc, "seed")
-        .long("seed")
-        .action(ArgAction::Set)
-        .value_parser(ValueParser::unsigned(0, MOST_SEED))
-        .default_value("0")
-}
-
-fn walk_arg<'a>(alloc: Global) -> Arg<'a>
-    ensures rule { rule_of result ≡ walk_rule }
-    ensures local { result.global ≡ false }
-{
-    Arg::new(alloc, "walk")
-        .long("walk")
-        .action(ArgAction::Set)
-        .value_parser(ValueParser::unsigned(0, MOST_WALK))
-        .default_value("0")
-}
-
-fn proof_arg<'a>(alloc: Global) -> Arg<'a>
-    ensures rule { rule_of result ≡ proof_rule }
-    ensures local { result.global ≡ false }
-{
-    Arg::new(alloc, "proof").long("proof")
-}
-
-fn binary_arg<'a>(alloc: Global) -> Arg<'a>
-    ensures rule { rule_of result ≡ binary_rule }
-    ensures local { result.global ≡ false }
-{
-    Arg::new(alloc, "binary")
-        .long("binary")
-        .action(ArgAction::SetTrue)
-}
-
-fn no_simplify_arg<'a>(alloc: Global) -> Arg<'a>
-    ensures rule { rule_of result ≡ no_simplify_rule }
-    ensures local { result.global ≡ false }
-{
-    Arg::new(alloc, "no-simplify")
-        .long("no-simplify")
-        .action(ArgAction::SetTrue)
-}
-
-fn add_arg<'a>(alloc: Global) -> Arg<'a>
-    ensures rule { rule_of result ≡ add_rule }
-    ensures local { result.global ≡ false }
-{
-    Arg::new(alloc, "add")
-        .long("add")
-        .action(ArgAction::SetTrue)
-}
-
-fn check_arg<'a>(alloc: Global) -> Arg<'a>
-    ensures rule { rule_of result ≡ check_rule }
-    ensures local { result.global ≡ false }
-{
-    Arg::new(alloc, "check")
-        .long("check")
-        .action(ArgAction::SetTrue)
-}
-
-fn make_arg<'a>(alloc: Global) -> Arg<'a>
-    ensures rule { rule_of result ≡ make_rule }
-    ensures local { result.global ≡ false }
-{
-    Arg::new(alloc, "make")
-        .long("make")
-        .action(ArgAction::Set)
-        .value_parser(ValueParser::unsigned(0, MOST_MADE))
-}
-
-fn file_arg<'a>(alloc: Global) -> Arg<'a>
-    ensures rule { rule_of result ≡ file_rule }
-    ensures local { result.global ≡ false }
-{
-    Arg::new(alloc, "file")
 }
 
 /// The command of the program, with no flag for help and none for the version.

@@ -143,8 +143,8 @@ impl<'a, S: Sink, G: Gate, H> RingPass<'a, S, G, H> {
     ///
     /// The answer that refused last is what the log's turns refused this ring last: a turn notes its refusals in the pass as it
     /// is given back. So except for want of memory the last refusal is one that a turn made, though a body may repeat it, or ask
-    /// a broken log again after its own write failed. If it was for want of room, the table had none. A lone ring was told of a failed write exactly if the port was refused for
-    /// a fault.
+    /// a broken log again after its own write failed. If it was for want of room, the table had none. A lone ring was told of a
+    /// failed write exactly if the port was refused for a fault.
     pub fn into_pass(self, table: &Shared<Book<S>>, _other: &Pass<Book<S>>) -> Pass<Book<S>>
         requires other { IsPassOf table.now _other.now }
         requires home { self.home ≡ home_of _other.now }

@@ -261,6 +261,13 @@ def check_proof(clauses, proof, binary=False):
     return ended
 
 
+def lemmas_shown(proof, binary):
+    """The fewest and the most lemmas of rings that never reduced, in a proof that is theirs alone: each clause of two literals or more
+    is one, and a unit is one or came otherwise."""
+    added = [literals for deletes, literals in (binary_lines(proof) if binary else text_lines(proof)) if not deletes]
+    return sum(len(literals) > 1 for literals in added), len(added)
+
+
 def check_model(variables, clauses, lines):
     """Whether the value lines are in the format and make each clause true."""
     words = []
@@ -295,9 +302,9 @@ def check_no_room(out, err):
         raise Wrong("status 8 with %r on standard error and %r printed" % (err, out))
 
 
-def check_answer(variables, clauses, status, out, err, proof, satisfiable, checked=False, limited=False, narrow=False, binary=False):
-    """`limited` says that the rings may learn few lemmas, `narrow` that there are few words for clauses, `binary` that the proof is in
-    binary."""
+def check_answer(variables, clauses, status, out, err, proof, satisfiable, checked=False, limit=None, narrow=False, binary=False, alone=False):
+    """`limit` is how many lemmas the rings may learn together, if that was asked for, `narrow` says that there are few words for clauses,
+    `binary` that the proof is in binary, `alone` that the rings alone wrote it."""
     if status == 8 and narrow:
         check_no_room(out, err)
         check_proof(clauses, proof, binary)
@@ -324,16 +331,19 @@ def check_answer(variables, clauses, status, out, err, proof, satisfiable, check
             raise Wrong("status 20 with another answer or without a refutation")
         if satisfiable is True:
             raise Wrong("20 for a formula that an assignment satisfies")
-    elif status == 0 and limited:
+    elif status == 0 and limit is not None:
         if lines != ["s UNKNOWN"] or ended:
             raise Wrong("status 0 with another answer or with a refutation")
+        fewest, most = lemmas_shown(proof, binary)
+        if alone and not fewest <= limit <= most:
+            raise Wrong("status 0 after %d to %d lemmas, and the limit is %d" % (fewest, most, limit))
     else:
         raise Wrong("status %d" % status)
 
 
 class Options:
     """How the program is to decide: by how many rings, with how many words for clauses, slots for each two rings and class, and
-    lemmas for each ring, from which seed, whether it simplifies, may add variables and checks its log, and whether the proof is in
+    lemmas for all rings, from which seed, whether it simplifies, may add variables and checks its log, and whether the proof is in
     binary. None leaves an option out."""
 
     def __init__(self, rng, simplified):
@@ -385,9 +395,10 @@ def run(program, folder, variables, clauses, satisfiable, text, from_file, optio
         proof,
         satisfiable,
         options.checked,
-        options.numbers["--conflicts"] is not None,
+        options.numbers["--conflicts"],
         options.numbers["--words"] is not None,
         options.binary,
+        not options.simplified and all(len(clause) > 1 for clause in clauses),
     )
     more = has_more_variables(variables, proof, options.binary)
     if more and not (options.adds and options.simplified):
@@ -549,6 +560,9 @@ def try_itself():
     must_catch("a text in place of a binary proof", lambda: check_proof(clauses, b"1 0\n0\n", True))
     must_catch("a binary line cut short", lambda: check_proof(clauses, b"a\2\0a", True))
     must_catch("a number in two groups for one", lambda: check_proof(clauses, b"a\x82\0\0", True))
+    check_answer(2, clauses, 0, "s UNKNOWN\n", "", b"1 0\n", False, limit=1, alone=True)
+    must_catch("a lemma too few", lambda: check_answer(2, clauses, 0, "s UNKNOWN\n", "", b"1 0\n", False, limit=2, alone=True))
+    must_catch("a lemma too many", lambda: check_answer(2, clauses, 0, "s UNKNOWN\n", "", b"1 -2 0\n1 2 0\n", False, limit=1, alone=True))
     check_model(2, [[1, -2]], ["v 1 2 0"])
     must_catch("a wrong model", lambda: check_model(2, [[1, -2]], ["v -1 2 0"]))
     must_catch("a variable left out", lambda: check_model(2, [[1]], ["v 1 0"]))

@@ -49,6 +49,8 @@ struct Row {
     /// A number for each ring; the numbers are compared if `compares_learned` says so.
     learned: &'static [u64],
     compares_learned: bool,
+    /// What the numbers add up to, if that is compared.
+    together: Option<u64>,
     need: u64,
     largest: u64,
     code: u8,
@@ -79,6 +81,7 @@ const PLAIN: Row = Row {
     left: b"",
     learned: &[],
     compares_learned: true,
+    together: None,
     need: 0,
     largest: 0,
     code: 0,
@@ -91,6 +94,14 @@ fn is_same(found: &[u8], wanted: &[u8]) -> bool {
 
 fn are_same(found: &[u64], wanted: &[u64]) -> bool {
     found == wanted
+}
+
+fn sum_of(numbers: &[u64]) -> u64 {
+    let mut sum = 0;
+    for number in numbers {
+        sum = u64::saturating_add(sum, *number);
+    }
+    sum
 }
 
 /// A model is there exactly at status 10, and its text is the one that was printed.
@@ -143,6 +154,9 @@ fn check_tally(rt: &impl Abort, row: &Row, tally: &Tally) {
     let learned = tally.learned.as_slice();
     assert_eq!(rt; learned.len(), row.learned.len());
     assert!(rt; !row.compares_learned || are_same(learned, row.learned));
+    if let Some(together) = row.together {
+        assert_eq!(rt; sum_of(learned), together);
+    }
     check_offers(rt, tally);
     assert_eq!(rt; tally.need, row.need);
     assert_eq!(rt; tally.largest, row.largest);
@@ -1256,4 +1270,36 @@ fn one_lemma_and_no_more(rt: HostRuntime) -> Result<(), Fail> {
     };
     check_row(&rt, row, 65536)?;
     check_row(&rt, walked, 65536)
+}
+
+/// However many rings there are, they learn as many lemmas together as they may.
+#[test]
+fn lemmas_of_all_rings(rt: HostRuntime) -> Result<(), Fail> {
+    let row = Row {
+        words: &["--threads", "4", "--conflicts", "1", "--no-simplify"],
+        input: PIGEONS,
+        status: 0,
+        out: b"s UNKNOWN\n",
+        compares_proof: false,
+        learned: &[0, 0, 0, 0],
+        compares_learned: false,
+        together: Some(1),
+        ..PLAIN
+    };
+    let checked = Row {
+        words: &[
+            "--threads",
+            "3",
+            "--conflicts",
+            "7",
+            "--no-simplify",
+            "--check",
+        ],
+        out: b"c proof accepted\ns UNKNOWN\n",
+        learned: &[0, 0, 0],
+        together: Some(7),
+        ..row
+    };
+    check_row(&rt, row, 65536)?;
+    check_row(&rt, checked, 65536)
 }

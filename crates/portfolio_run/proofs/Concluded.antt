@@ -71,7 +71,7 @@ gathered_of t v home plan vars left p before tally answer (inl h) = h.run.gather
 gathered_of t v home plan vars left p before tally answer (inr h) = h.rested.gathered
 
 module _ {S : Type 0} {d : Ghosts S} (written flushed target : S → Option (List ℕ)) (faults : S → ℕ) (sink : S) (plan : Plan) (F : FormulaData) (old : Book S d) (left : Simplified) (l : Layout) (origin : BookOrigin)
-    (few : F.vars ≤ 2 ^ 30) (on : All (All (IsOn F.vars)) F.clauses) (some_conflicts : 1 ≤ plan.conflicts) (some_ring : 1 ≤ plan.threads) (few_rings : plan.threads ≤ 16)
+    (few : F.vars ≤ 2 ^ 30) (on : All (All (IsOn F.vars)) F.clauses) (some_ring : 1 ≤ plan.threads) (few_rings : plan.threads ≤ 16)
     (was : WasRuled written flushed target faults sink plan F old (Ok (LeftOver left))) (table_is : l ≡ layout_of plan left.vars)
     (format_is : origin.format ≡ plan.format) (faults_are : origin.faults ≡ faults sink) (target_is : origin.target ≡ target sink) (keeps_are : origin.keeps ≡ plan.keep_lines)
     (t : Shared (Book S d)) (home : List ℕ) (p : Seat (Option (Book S d)) View) (tally : List Counts) (answer : Answer)
@@ -90,14 +90,14 @@ module _ {S : Type 0} {d : Ghosts S} (written flushed target : S → Option (Lis
     gathered = gathered_of t v home plan F.vars left p (replicate plan.threads no_counts) tally answer searched
 
     abbrev K : List Entry
-    K = entries written flushed target faults sink plan F old left l origin few on some_conflicts some_ring few_rings_there was table_is p.me.0 gathered.same s
+    K = entries written flushed target faults sink plan F old left l origin few on some_ring few_rings_there was table_is p.me.0 gathered.same s
 
     g : GoesOn plan F left l was.ruled.journal K p.me.0 s
-    g = goes_on written flushed target faults sink plan F old left l origin few on some_conflicts some_ring few_rings_there was table_is p.me.0 gathered.same s
+    g = goes_on written flushed target faults sink plan F old left l origin few on some_ring few_rings_there was table_is p.me.0 gathered.same s
 
     -- the book has come to the journal
     pub book_records : Records written flushed target faults plan.format sink F.clauses s.core.journal b
-    book_records = records written flushed target faults sink plan F old left l origin few on some_conflicts some_ring few_rings_there was table_is p.me.0 gathered.same s b fault format_is faults_are target_is stands
+    book_records = records written flushed target faults sink plan F old left l origin few on some_ring few_rings_there was table_is p.me.0 gathered.same s b fault format_is faults_are target_is stands
 
     idle_at : HaveRested t v p → (r : ℕ) → r < plan.threads → (s.core.part r).wrote ≡ []
     idle_at h r lt =

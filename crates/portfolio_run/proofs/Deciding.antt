@@ -1,5 +1,5 @@
 -- The answer of the end that counts holds over the journal of all rings.
-use Rattle.std.proofs.Common.{◌≡◌, ◌∙◌, ◌<◌, ℕ, Bool, true, false, List, [], ◌++◌, map, length, replicate, get_or, refl, sym, ap, subst, arith, inl, inr, eq-eqb}
+use Rattle.std.proofs.Common.{◌≡◌, ◌∙◌, ◌<◌, ◌≤◌, ℕ, Bool, true, false, List, [], ◌++◌, map, length, replicate, get_or, refl, sym, ap, subst, arith, inl, inr, eq-eqb}
 use Rattle.std.specs.Prelude.{◌≢◌, Some, None, Option, if◌then◌else◌}
 use Rattle.std.specs.Option.{option_map}
 use Rattle.std.proofs.lemmas.List.{get_or-map, length-map}
@@ -9,6 +9,7 @@ use Rattle.sat_words.specs.FormulaData.{FormulaData}
 use Rattle.sat_words.specs.declared.shared.NoRoom.{NoRoom}
 use Rattle.sat_words.specs.declared.shared.TheConstants.{STOP_SAT, STOP_PROOF, STOP_MEMORY}
 use Rattle.rup_model.specs.declared.journal.Entry.{Entry}
+use Rattle.rup_model.specs.Basics.{below}
 use Rattle.rup_model.specs.Journal.{added, ended, learned}
 use Rattle.rup_model.specs.Opening.{program_opening}
 use Rattle.rup_model.specs.Spent.{ruler_part}
@@ -16,8 +17,11 @@ use Rattle.share_core.specs.declared.part.CoreOpening.{CoreOpening}
 use Rattle.share_core.specs.declared.part.Placed.{Placed}
 use Rattle.share_core.specs.State.{opening_of}
 use Rattle.share_core.specs.declared.event.Stop.{Stop}
+use Rattle.share_core.specs.Sound.{Sound}
 use Rattle.share_core.proofs.Leaving.{left_sound}
+use Rattle.share_core.proofs.Tickets.{all_used, few_used}
 use Rattle.share_core.proofs.Counting.{none_some, some_same}
+use Rattle.rup_model.proofs.Sums.{below_same}
 use Rattle.share_rule.specs.declared.Layout.{Layout}
 use Rattle.share_rule.specs.declared.view.BookOrigin.{BookOrigin}
 use Rattle.share_rule.specs.declared.view.View.{View}
@@ -40,7 +44,7 @@ use Rattle.portfolio_run.specs.declared.answer.Answer.{Answer}
 use Rattle.portfolio_run.specs.declared.answer.Answer.TheVariants.{Unknown, ProofFault, Memory}
 use Rattle.portfolio_run.specs.declared.plan.Plan.{Plan}
 use Rattle.portfolio_run.specs.Ends.{set_of}
-use Rattle.portfolio_run.specs.Held.{IsProgramOpening, IsTallied, RanOnce, IsHeld, HasStop, no_counts}
+use Rattle.portfolio_run.specs.Held.{IsProgramOpening, IsTallied, RanOnce, IsHeld, HasStop, NeverGone, no_counts}
 use Rattle.portfolio_run.specs.Journaled.{IsJournal, IsUnrefuted}
 use Rattle.portfolio_run.specs.Reached.{RanAt}
 use Rattle.portfolio_run.specs.Room.{layout_of}
@@ -52,7 +56,7 @@ use Rattle.portfolio_run.proofs.Interleaving.{own, none_of}
 use Rattle.portfolio_run.proofs.Mending.{alike, model, placed_starts}
 use Rattle.portfolio_run.proofs.Placing.{placed_own}
 use Rattle.portfolio_run.proofs.RingsJournal.{HasWritten, AreTogether, ruler_is, rings_is, journal_stands, learned_there, spent_all, unsettled, refutation}
-use Rattle.portfolio_run.proofs.RingsRun.{starts_from, port, has_written, learned_many, tallied, ended_is, cause, wanted, faulty, spent_is, fewer, unrefuted, calm}
+use Rattle.portfolio_run.proofs.RingsRun.{starts_from, port, has_written, tallied, ended_is, cause, wanted, faulty, gone, never_gone, unrefuted, calm}
 use Rattle.portfolio_run.proofs.Behind.{IsAlike}
 use Rattle.portfolio_run.proofs.Spelling.{wider}
 
@@ -63,7 +67,7 @@ pub record IsDecided (plan : Plan) (F : FormulaData) (answer : Answer) (tally : 
   pub ruled : IsRuledThrough F (schedule_of plan) J
   pub held : IsHeld plan.threads plan.slots plan.conflicts F.clauses J tally
   pub stop : HasStop held (kind_of answer)
-  pub holds : Holds plan ruled.ruled.work.vars F J answer
+  pub holds : Holds plan ruled.ruled.work.vars F J held answer
   pub rose : answer ≡ ProofFault → Failed
   pub calm : plan.threads ≡ 1 → kind_of answer ≢ Some STOP_PROOF → Calm
 
@@ -113,14 +117,13 @@ module _ (plan : Plan) (F : FormulaData) (left : Simplified) (l : Layout) (origi
       let threads = plan.threads in
       let some_ring : 0 < plan.threads = let h = g.some_ring in omega (arith, h) in
       let none_there : own 0 K ≡ [] = own_none 0 some_ring in
+      let held : IsHeld plan.threads plan.slots plan.conflicts F.clauses J tally = inl (record { rulers = rings_is wide J0 K threads o t ∙ none_of plan.threads K g.of_rings own_none; none = inr none }) in
       subst (IsDecided plan F Memory tally Failed Calm) (sym g.journal_is) (record {
         stands = journal_stands wide J0 K threads o t;
         ruled = g.through;
-        held = inl (record { rulers = rings_is wide J0 K threads o t ∙ none_of plan.threads K g.of_rings own_none; none = inr none });
+        held = held;
         stop = (λ e. absurd (let k = some_same STOP_MEMORY STOP_SAT e in omega arith), λ e. none_some STOP_MEMORY (sym e));
-        holds = unsettled wide J0 K threads o t plan.conflicts 0 some_ring
-            (let h : length (learned 0 (own 0 K)) ≡ 0 = ap (λ (I : List Entry). length (learned 0 I)) none_there in let k = g.some in omega (arith, h, k))
-            (ap (λ (I : List Entry). list_any is_empty (added I)) none_there);
+        holds = unsettled wide J0 K threads o t plan.slots plan.conflicts tally held 0 some_ring tt (ap (λ (I : List Entry). list_any is_empty (added I)) none_there);
         rose = λ e. cc e;
         calm = λ one ne. calm one;
       })
@@ -165,9 +168,9 @@ module _ (plan : Plan) (F : FormulaData) (left : Simplified) (l : Layout) (origi
     t : AreTogether wide J0 K plan.threads (starts_from v)
     t = together written_at
 
-    tallied_at : (r : ℕ) (d : Counts) → r < plan.threads → IsTallied plan.threads plan.conflicts r s.left.events J (get_or tally r d)
+    tallied_at : (r : ℕ) (d : Counts) → r < plan.threads → IsTallied plan.threads r s.left.events J (get_or tally r d)
     tallied_at r d lt =
-        subst (IsTallied plan.threads plan.conflicts r s.left.events J) (sym (ap (λ (cs : List Counts). get_or cs r d) tally_is ∙ get_or-map (λ (e : End × Counts). e.1) ends r none_ended d (among r lt)))
+        subst (IsTallied plan.threads r s.left.events J) (sym (ap (λ (cs : List Counts). get_or cs r d) tally_is ∙ get_or-map (λ (e : End × Counts). e.1) ends r none_ended d (among r lt)))
         (tallied v w home plan s r (end_at r) (counts_at r) (ran_at r lt) plan.threads g.rings_are lt K start (g.wrote r lt) J (learned_there wide J0 K plan.threads (starts_from v) t r))
 
     program : IsProgramOpening F.clauses (ruler_part J) (opening_of s.core.opening)
@@ -176,21 +179,62 @@ module _ (plan : Plan) (F : FormulaData) (left : Simplified) (l : Layout) (origi
         (subst (λ (q : CoreOpening). IsProgramOpening F.clauses J0 (opening_of q)) (sym g.opening_is)
         (record { journal_is = refl; starts = placed_starts (first_cell l) left.start.items ∙ g.left_is.starts; units = g.left_is.units }))
 
+    -- What the rings learned together, as the core counts it
+
+    rings_core : s.core.opening.rings ≡ plan.threads
+    rings_core = ap (λ (q : CoreOpening). q.rings) g.opening_is ∙ g.rings_are
+
+    limit_core : s.core.opening.limit ≡ plan.conflicts
+    limit_core = ap (λ (q : CoreOpening). q.limit) g.opening_is ∙ g.limit_is
+
+    core_sound : Sound s.core
+    core_sound = left_sound s.core.opening s.core s.left
+
+    -- the number of lemmas of a ring in the journal, and in its part of the core
+    abbrev lemmas : ℕ → ℕ
+    lemmas r = length (learned r J)
+
+    abbrev lemmas_core : ℕ → ℕ
+    lemmas_core r = length (learned r (map (λ (p : Placed). p.entry) (s.core.part r).wrote))
+
+    lemmas_same : (r : ℕ) → r < plan.threads → lemmas r ≡ lemmas_core r
+    lemmas_same r lt =
+        ap length (learned_there wide J0 K plan.threads (starts_from v) t r)
+        ∙ ap (λ (I : List Entry). length (learned r I)) (sym (ap (map (λ (p : Placed). p.entry)) (g.wrote r lt) ∙ placed_own r start K))
+
+    together_learned : below plan.threads lemmas ≡ below s.core.opening.rings lemmas_core
+    together_learned = below_same plan.threads lemmas_core lemmas lemmas_same ∙ ap (λ (n : ℕ). below n lemmas_core) (sym rings_core)
+
+    within : below plan.threads lemmas ≤ plan.conflicts
+    within =
+        let few = few_used s.core.opening s.core.drawn s.core.part core_sound.tickets in
+        let same = together_learned in
+        let limit = limit_core in omega (arith, few, same, limit)
+
+    -- if each ring found all tickets gone, they learned as many as they may
+    all_learned : ((r : ℕ) → r < plan.threads → s.core.opening.limit < (s.core.part r).found) → below plan.threads lemmas ≡ plan.conflicts
+    all_learned past =
+        together_learned
+        ∙ all_used s.core.opening s.core.drawn s.core.part core_sound.tickets core_sound.opens.some_ring (λ r lt. past r (subst (λ (n : ℕ). r < n) rings_core lt))
+        ∙ limit_core
+
     ran_once : RanOnce plan.threads plan.slots plan.conflicts F.clauses J tally
     ran_once = record {
       opening = s.core.opening;
-      rings_are = ap (λ (q : CoreOpening). q.rings) g.opening_is ∙ g.rings_are;
+      rings_are = rings_core;
       depth_is = ap (λ (q : CoreOpening). q.depth) g.opening_is ∙ g.depth_is;
+      limit_is = limit_core;
       formula_is = ap (λ (q : CoreOpening). q.formula) g.opening_is;
       program = program;
       core = s.core;
       left = s.left;
       leaves = g.journal_is;
+      within = within;
       many = ap length tally_is ∙ length-map ends (λ (e : End × Counts). e.1) ∙ many;
       tallied = tallied_at;
     }
 
-    decided : (Failed Calm : Type 0) (answer : Answer) → option_map (λ (x : Stop). x.kind) s.core.stop ≡ kind_of answer → Holds plan vars F J answer → (answer ≡ ProofFault → Failed) → (plan.threads ≡ 1 → kind_of answer ≢ Some STOP_PROOF → Calm) → IsDecided plan F answer tally Failed Calm s.core.journal
+    decided : (Failed Calm : Type 0) (answer : Answer) → option_map (λ (x : Stop). x.kind) s.core.stop ≡ kind_of answer → Holds plan vars F J (inr ran_once) answer → (answer ≡ ProofFault → Failed) → (plan.threads ≡ 1 → kind_of answer ≢ Some STOP_PROOF → Calm) → IsDecided plan F answer tally Failed Calm s.core.journal
     unfolding ran_once
     decided Failed Calm answer stop holds rose calm =
         subst (IsDecided plan F answer tally Failed Calm) (sym g.journal_is)
@@ -217,16 +261,15 @@ module _ (plan : Plan) (F : FormulaData) (left : Simplified) (l : Layout) (origi
     decided_spent Failed fault tells long answer h =
         decided Failed (fault ≡ false) answer
         (ap (option_map (λ (x : Stop). x.kind)) (unstopped (λ r lt. h.each r none_ended (among r lt)) s.core.stop refl) ∙ ap kind_of (sym h.is))
-        (subst (Holds plan vars F J) (sym h.is) (spent_all wide J0 K plan.threads (starts_from v) t plan.conflicts one))
+        (subst (Holds plan vars F J (inr ran_once)) (sym h.is) (spent_all wide J0 K plan.threads (starts_from v) t plan.conflicts (all_learned (λ r lt. (one r lt).0)) (λ r lt. (one r lt).1)))
         (λ e. (let clash : Unknown ≡ ProofFault = sym h.is ∙ e in absurd (cc clash)))
         (λ threads ne. calm_at 0 (omega (arith, threads)) threads long fault tells (subst (Cause (port_at 0 (omega (arith, threads)))) (h.each 0 none_ended (among 0 (omega (arith, threads)))) (cause_at 0 (omega (arith, threads)))).usable)
       where
-        one : (r : ℕ) → r < plan.threads → (length (learned r (own r K)) ≡ plan.conflicts) × IsUnrefuted (own r K)
+        one : (r : ℕ) → r < plan.threads → (s.core.opening.limit < (s.core.part r).found) × IsUnrefuted (own r K)
         one r lt =
             let is : end_at r ≡ end.Spent = h.each r none_ended (among r lt) in
             let intact : IsIntact (port_at r lt) = subst (Cause (port_at r lt)) is (cause_at r lt) in (
-              sym (learned_many v w home plan s r (end_at r) (counts_at r) (ran_at r lt) plan.threads g.rings_are lt K start (g.wrote r lt))
-                  ∙ spent_is v w home plan s r (end_at r) (counts_at r) (ran_at r lt) plan.threads g.rings_are lt K start (g.wrote r lt) is,
+              subst (λ (q : CoreOpening). q.limit < (s.core.part r).found) (sym g.opening_is) (gone v w home plan s r (end_at r) (counts_at r) (ran_at r lt) plan.threads g.rings_are lt K start (g.wrote r lt) is),
               unrefuted_at r lt intact.going,
             )
 
@@ -247,11 +290,14 @@ module _ (plan : Plan) (F : FormulaData) (left : Simplified) (l : Layout) (origi
           ap (ended F.clauses) (sym g.journal_is) ∙ ap (λ (q : CoreOpening). ended q.formula s.core.journal) (sym g.opening_is)
           ∙ ended_is v w home plan s r (end_at r) (counts_at r) (ran_at r lt) plan.threads g.rings_are lt K start (g.wrote r lt) e
 
-      unsettled_by : (x : End) → end_at r ≡ x → (x ≡ end.Spent → ⊥) → list_any is_empty (added (port_at r lt).mine) ≡ false → IsUnsettled plan.threads plan.conflicts J
-      unsettled_by x is other none =
-          unsettled wide J0 K plan.threads (starts_from v) t plan.conflicts r lt
-          (fewer v w home plan s r (end_at r) (counts_at r) (ran_at r lt) plan.threads g.rings_are lt K start (g.wrote r lt) (λ e. other (sym is ∙ e)))
-          (unrefuted_at r lt none)
+      unsettled_by : (x : End) → end_at r ≡ x → (x ≡ end.Spent → ⊥) → list_any is_empty (added (port_at r lt).mine) ≡ false → IsUnsettled (inr ran_once)
+      unfolding ran_once
+      unsettled_by x is other none = unsettled wide J0 K plan.threads (starts_from v) t plan.slots plan.conflicts tally (inr ran_once) r lt tickets (unrefuted_at r lt none)
+        where
+          tickets : NeverGone (inr ran_once) r
+          tickets =
+              subst (λ (q : CoreOpening). (s.core.part r).found ≤ q.limit) (sym g.opening_is)
+              (never_gone v w home plan s r (end_at r) (counts_at r) (ran_at r lt) plan.threads g.rings_are lt K start (g.wrote r lt) (λ e. other (sym is ∙ e)))
 
       -- if its port was refused for want of room, the table had none
       no_room : (lack : NoRoom) → (port_at r lt).refused ≡ Some (NoHoleAnswer lack) → IsTight (layout_of plan vars) (program_core F.clauses (layout_of plan vars) (ruler_part J)) J lack.need lack.largest
@@ -263,7 +309,7 @@ module _ (plan : Plan) (F : FormulaData) (left : Simplified) (l : Layout) (origi
           let opened : IsTight l (program_core F.clauses l J0) J lack.need lack.largest = program_tight F.clauses l J0 J left.start.items left.units.items lack.need lack.largest g.left_is.starts begun in
           subst (λ (y : Layout × List Entry). IsTight y.0 (program_core F.clauses y.0 y.1) J lack.need lack.largest) (λ i. (g.table_is i, sym (ruler_is wide J0 K plan.threads (starts_from v) t) i)) opened
 
-      holds_by : (kind : ℕ) (x : End) → end_at r ≡ x → Cause (port_at r lt) x → stop_kind x ≡ Some kind → Holds plan vars F J (answer_of F.vars left.stack x)
+      holds_by : (kind : ℕ) (x : End) → end_at r ≡ x → Cause (port_at r lt) x → stop_kind x ≡ Some kind → Holds plan vars F J (inr ran_once) (answer_of F.vars left.stack x)
       holds_by kind (end.Sat a) is c won = model F J0 left g.left_is (start_glues (starts_at (first_cell l) left.start.items)) (first_cell l) a g.more g.on (c.0.long ∙ g.vars_are) c.0.start c.0.opening
       holds_by kind end.Refuted is c won = refutation wide J0 K plan.threads (starts_from v) t g.left_is.going (log_ended c.0)
       holds_by kind end.Spent is c won = absurd (none_some kind won)
@@ -299,6 +345,6 @@ module _ (plan : Plan) (F : FormulaData) (left : Simplified) (l : Layout) (origi
         let kind_is : kind_of answer ≡ Some h.won.kind = ap kind_of is ∙ answers_kind (end_at h.ring) ∙ h.won.decided none_ended in
         decided Failed (fault ≡ false) answer
         (ap (option_map (λ (x : Stop). x.kind)) (s.stops.stands (record { kind = h.won.kind; ring = h.ring }) h.won.stop) ∙ sym (h.won.decided none_ended) ∙ sym (answers_kind (end_at h.ring)) ∙ ap kind_of (sym is))
-        (subst (Holds plan vars F J) (sym is) (holds_by h.ring lt h.won.kind (end_at h.ring) refl (cause_at h.ring lt) (h.won.decided none_ended)))
+        (subst (Holds plan vars F J (inr ran_once)) (sym is) (holds_by h.ring lt h.won.kind (end_at h.ring) refl (cause_at h.ring lt) (h.won.decided none_ended)))
         (λ e. fails (rose_by h.ring lt fault tells (end_at h.ring) (cause_at h.ring lt) (sym is ∙ e)))
         (λ threads ne. calm_at h.ring lt threads long fault tells (usable_by h.ring lt h.won.kind (end_at h.ring) (cause_at h.ring lt) (h.won.decided none_ended) (λ e. ne (kind_is ∙ ap Some e))))

@@ -46,12 +46,12 @@ pub record GoesOn (plan : Plan) (F : FormulaData) (left : Simplified) (l : Layou
   pub more : F.vars ≤ left.vars
   pub few : left.vars ≤ 2 ^ 30
   pub on : All (All (IsOn F.vars)) F.clauses
-  pub some : 1 ≤ plan.conflicts
   pub some_ring : 1 ≤ plan.threads
   pub few_rings : plan.threads ≤ RULER_RING
   pub rings_are : l.rings ≡ plan.threads
   pub vars_are : l.vars ≡ left.vars
   pub depth_is : l.depth ≡ plan.slots
+  pub limit_is : l.conflicts ≡ plan.conflicts
   pub layout_is : w.layout ≡ l
   pub rulers : AreRulers J0
   pub on_ruler : All (All (IsOn left.vars)) (added J0)
@@ -65,7 +65,7 @@ pub record GoesOn (plan : Plan) (F : FormulaData) (left : Simplified) (l : Layou
   pub sound : LogSound F.clauses (J0 ++ K)
 
 module _ {S : Type 0} {d : Ghosts S} (written flushed target : S → Option (List ℕ)) (faults : S → ℕ) (sink : S) (plan : Plan) (F : FormulaData) (old : Book S d) (left : Simplified) (l : Layout) (origin : BookOrigin)
-    (few : F.vars ≤ 2 ^ 30) (on : All (All (IsOn F.vars)) F.clauses) (some : 1 ≤ plan.conflicts) (some_ring : 1 ≤ plan.threads) (few_rings : plan.threads ≤ RULER_RING)
+    (few : F.vars ≤ 2 ^ 30) (on : All (All (IsOn F.vars)) F.clauses) (some_ring : 1 ≤ plan.threads) (few_rings : plan.threads ≤ RULER_RING)
     (was : WasRuled written flushed target faults sink plan F old (Ok (LeftOver left))) (table_is : l ≡ layout_of plan left.vars)
     (w : View) (same : IsSameTable (first_view l (began_with F l was.ruled.journal left) origin) w) (s : Seen w) where
   abbrev J0 : List Entry
@@ -148,12 +148,12 @@ module _ {S : Type 0} {d : Ghosts S} (written flushed target : S → Option (Lis
     more = subst (λ (n : ℕ). F.vars ≤ n) work_vars was.ruled.more;
     few = few_left;
     on = on;
-    some = some;
     some_ring = some_ring;
     few_rings = few_rings;
     rings_are = rings_are;
     vars_are = vars_are;
     depth_is = ap (λ (x : Layout). x.depth) table_is;
+    limit_is = ap (λ (x : Layout). x.conflicts) table_is;
     layout_is = same.layout;
     rulers = rulers;
     on_ruler = subst (λ (n : ℕ). All (All (IsOn n)) (added J0)) work_vars was.ruled.stands.on;

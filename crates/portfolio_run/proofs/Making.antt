@@ -37,7 +37,7 @@ pub home_same : {B : Type 0} (t : Shared B) (p q : Seat (Option B) View) → IsP
 home_same t p q a b =
     let id : q.table_id ≡ p.table_id = b.0 ∙ sym a.0 in
     let lay : q.me.0.layout ≡ p.me.0.layout = b.2 ∙ sym a.2 in
-    λ i. (lay i).rings ∷ (lay i).vars ∷ (lay i).words ∷ (lay i).depth ∷ (id i).words ∷ (id i).slots ∷ (id i).views_name ∷ (id i).atom ∷ (id i).block ∷ (id i).offset ∷ (id i).slot_names
+    λ i. (lay i).rings ∷ (lay i).vars ∷ (lay i).words ∷ (lay i).depth ∷ (lay i).conflicts ∷ (id i).words ∷ (id i).slots ∷ (id i).views_name ∷ (id i).atom ∷ (id i).block ∷ (id i).offset ∷ (id i).slot_names
 
 -- what is made over the pass is made over the table
 pub made_of : (u v : View) (home home' : List ℕ) (plan : Plan) (ring : ℕ) (one : RingJob PortState) → IsSameTable v u → u.stop ≡ None → home' ≡ home → IsMade u home' plan ring one → IsMade v home plan ring one

@@ -24,15 +24,14 @@ addresses_of : (gs : List GlueAt) (hs : List ClauseAt) → addresses hs ≡ map 
 addresses_of gs [] = refl
 addresses_of gs (h ∷ hs) = ap (λ (cs : List Cref). record { address = h.address } ∷ cs) (addresses_of gs hs)
 
-begun_ready : (v : View) (ring : ℕ) (home : List ℕ) (job : Job) → v.stop ≡ None → HoldsStart (begun_as v ring home) → IsPort (begun_as v ring home) → 1 ≤ job.conflicts → v.layout.vars ≤ 2 ^ 30 → job.vars ≡ v.layout.vars → job.ring ≡ ring → job.rings ≡ v.opening.rings → job.start ≡ addresses v.opening.starts → IsReady (begun_as v ring home) job
-begun_ready v ring home job unstopped holds port some small vars ring_is rings start = record {
+begun_ready : (v : View) (ring : ℕ) (home : List ℕ) (job : Job) → v.stop ≡ None → HoldsStart (begun_as v ring home) → IsPort (begun_as v ring home) → v.layout.vars ≤ 2 ^ 30 → job.vars ≡ v.layout.vars → job.ring ≡ ring → job.rings ≡ v.opening.rings → job.start ≡ addresses v.opening.starts → IsReady (begun_as v ring home) job
+begun_ready v ring home job unstopped holds port small vars ring_is rings start = record {
   job_is = record {
     small = subst (λ (n : ℕ). n ≤ 2 ^ 30) (sym vars) small;
     ring = ring_is;
     rings = rings;
     vars = vars;
     start = start ∙ addresses_of (start_glues v.opening.starts) v.opening.starts;
-    some = some;
   };
   untouched = record {
     held = holds;
@@ -43,10 +42,12 @@ begun_ready v ring home job unstopped holds port some small vars ring_is rings s
     refused = refl;
     shared = refl;
     polled = refl;
+    ticket = refl;
+    found = refl;
   };
   port = port;
 }
 
-pub is_ready : (v : View) (ring : ℕ) (home : List ℕ) (port : PortState) (job : Job) → v.stop ≡ None → port ≡ begun_as v ring home → HoldsStart port → IsPort port → 1 ≤ job.conflicts → v.layout.vars ≤ 2 ^ 30 → job.vars ≡ v.layout.vars → job.ring ≡ ring → job.rings ≡ v.opening.rings → job.start ≡ addresses v.opening.starts → IsReady port job
-is_ready v ring home port job unstopped is holds isport some small vars ring_is rings start =
-    subst (λ (s : PortState). IsReady s job) (sym is) (begun_ready v ring home job unstopped (subst HoldsStart is holds) (subst IsPort is isport) some small vars ring_is rings start)
+pub is_ready : (v : View) (ring : ℕ) (home : List ℕ) (port : PortState) (job : Job) → v.stop ≡ None → port ≡ begun_as v ring home → HoldsStart port → IsPort port → v.layout.vars ≤ 2 ^ 30 → job.vars ≡ v.layout.vars → job.ring ≡ ring → job.rings ≡ v.opening.rings → job.start ≡ addresses v.opening.starts → IsReady port job
+is_ready v ring home port job unstopped is holds isport small vars ring_is rings start =
+    subst (λ (s : PortState). IsReady s job) (sym is) (begun_ready v ring home job unstopped (subst HoldsStart is holds) (subst IsPort is isport) small vars ring_is rings start)

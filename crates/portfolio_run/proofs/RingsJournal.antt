@@ -8,7 +8,7 @@ use Rattle.sat_words.specs.Literal.{Literal, IsOn}
 use Rattle.sat_words.specs.Clause.{is_empty}
 use Rattle.sat_words.specs.declared.line.Line.{Line}
 use Rattle.sat_words.specs.FormulaData.{FormulaData}
-use Rattle.rup_model.specs.Basics.{EachAfter}
+use Rattle.rup_model.specs.Basics.{EachAfter, below}
 use Rattle.rup_model.specs.Log.{OnVariables}
 use Rattle.rup_model.specs.declared.journal.TheConstants.{RULER_RING}
 use Rattle.rup_model.specs.declared.journal.Entry.{Entry}
@@ -22,6 +22,8 @@ use Rattle.rup_model.proofs.Parts.{ruler_part-append, rings_part-append}
 use Rattle.rup_model.proofs.Refuting.{added_empty_refutes}
 use Rattle.drat_text.specs.Text.{CanBeSpelled}
 use Rattle.ring_run.specs.Ended.{IsOwn}
+use Rattle.ring_run.specs.declared.job.Counts.{Counts}
+use Rattle.portfolio_run.specs.Held.{IsHeld, NeverGone}
 use Rattle.portfolio_run.specs.Journaled.{IsRingsEntry, IsPlainEntry, IsJournal, IsUnrefuted}
 use Rattle.portfolio_run.specs.Solved.{IsRefutation, IsUnsettled}
 use Rattle.portfolio_run.proofs.Interleaving.{cons_All, first_All, later_All, own, own-append, all_of, none_adds, learned_own}
@@ -126,23 +128,23 @@ module _ (F : FormulaData) (J0 K : List Entry) (rings : ℕ) (o : Opening) (t : 
       ap (list_any is_empty) (added-append J0 K) ∙ list_any-append is_empty (added J0) (added K)
       ∙ ap (λ (b : Bool). b || list_any is_empty (added K)) t.going ∙ none_adds is_empty rings K t.of_rings none
 
-  pub spent_all : (limit : ℕ) → ((r : ℕ) → r < rings → (length (learned r (own r K)) ≡ limit) × IsUnrefuted (own r K)) → SpentAll F.clauses J rings limit
-  spent_all limit all = record {
+  pub spent_all : (limit : ℕ) → below rings (λ r. length (learned r J)) ≡ limit → ((r : ℕ) → r < rings → IsUnrefuted (own r K)) → SpentAll F.clauses J rings limit
+  spent_all limit learns none = record {
     spent = record {
       of_rings = journal_stands.of_rings;
       fits = t.sound.fits;
-      learns = λ r lt. ap length (learned_there r) ∙ (all r lt).0;
+      learns = learns;
       spaced = journal_stands.spaced;
-      going = unrefuted (λ r lt. (all r lt).1);
+      going = unrefuted none;
     };
     each_new = each_new_there;
   }
 
-  pub unsettled : (limit r : ℕ) → r < rings → length (learned r (own r K)) < limit → IsUnrefuted (own r K) → IsUnsettled rings limit J
-  unsettled limit r lt fewer none = record {
+  pub unsettled : (slots limit : ℕ) (tally : List Counts) (held : IsHeld rings slots limit F.clauses J tally) (r : ℕ) → r < rings → NeverGone held r → IsUnrefuted (own r K) → IsUnsettled held
+  unsettled slots limit tally held r lt never none = record {
     ring = r;
     below = lt;
-    fewer = subst (λ (cs : List (List Literal)). length cs < limit) (sym (learned_there r)) fewer;
+    tickets = never;
     going = ap (λ (I : List Entry). list_any is_empty (added I)) (own_there r lt) ∙ none;
     rulers = ap (λ (I : List Entry). list_any is_empty (added I)) ruler_is ∙ t.going;
   }

@@ -66,11 +66,11 @@ others_many ring (suc n) lt =
     (λ is. (let h = others_past ring n (omega arith) in let own = below_own ring n is in omega (arith, h, own)))
     (λ ne. (let h = others_many ring n (omega arith) in let other = below_other ring n ne in omega (arith, h, other))))
 
-less_or : (a b : ℕ) → a ≤ b → (a ≡ b → ⊥) → a < b
-less_or zero zero le apart = absurd (apart refl)
-less_or zero (suc b) le apart = omega arith
-less_or (suc a) zero le apart = absurd (omega arith)
-less_or (suc a) (suc b) le apart = let h = less_or a b (omega arith) (λ e. apart (ap suc e)) in omega arith
+
+at_most : (a b : ℕ) → (a < b → ⊥) → b ≤ a
+at_most a zero past = omega arith
+at_most zero (suc b) past = absurd (past (omega arith))
+at_most (suc a) (suc b) past = let h = at_most a b (λ lt. past (omega arith)) in omega arith
 
 none_before : (n : ℕ) → 0 + n ≡ n
 none_before n = omega arith
@@ -133,12 +133,11 @@ module _ (v w : View) (home : List ℕ) (plan : Plan) (s : Seen w) (r : ℕ) (en
   others_are = ap (λ (n : ℕ). length (others_below port.ring n)) rings_are ∙ ap (λ (q : ℕ). length (others_below q rings)) ring_is ∙ others_many r rings below
 
   -- what it counted, over a journal in which it learned the same
-  pub tallied : (J : List Entry) → learned r J ≡ learned r (own r K) → IsTallied rings plan.conflicts r s.left.events J counts
+  pub tallied : (J : List Entry) → learned r J ≡ learned r (own r K) → IsTallied rings r s.left.events J counts
   tallied J same =
       let told : learned port.ring port.mine ≡ learned r J = learned_is ∙ sym same in
       record {
         learned_is = learned_many ∙ sym (ap length same);
-        within = h.ran.ran.within;
         all = subst (λ (cs : List (List Literal)). length (filter is_short cs) ≤ counts.exported) told h.ran.ran.counted.offers.all;
         few = subst (λ (cs : List (List Literal)). counts.exported ≤ length (filter is_long cs)) told h.ran.ran.counted.offers.few;
         shares_are = offered_is ∙ shared_is;
@@ -169,11 +168,17 @@ module _ (v w : View) (home : List ℕ) (plan : Plan) (s : Seen w) (r : ℕ) (en
       let same : t.1 ≡ h.part = some-injective t.1 h.part (sym t.2 ∙ ap (λ (i : ℕ). get_elem? w.parts i) here ∙ h.there) in
       true≢false (sym usable ∙ h.ran.alone_is (rings_are ∙ one) (ap (λ (p : RingPart). p.failed) (sym same) ∙ t.3)))
 
-  pub spent_is : end ≡ Spent → counts.learned ≡ plan.conflicts
-  spent_is e = h.ran.ran.spent.0 e
+  -- its last draw, as the core has it
+  found_is : port.found ≡ (s.core.part r).found
+  found_is = ap (λ (p : Part). p.found) core_is
 
-  pub fewer : (end ≡ Spent → ⊥) → length (learned r (own r K)) < plan.conflicts
-  fewer other = subst (λ (n : ℕ). n < plan.conflicts) learned_many (less_or counts.learned plan.conflicts h.ran.ran.within (λ e. other (h.ran.ran.spent.1 e)))
+  -- if it is spent, its last draw found all tickets gone
+  pub gone : end ≡ Spent → v.opening.limit < (s.core.part r).found
+  gone e = subst (λ (n : ℕ). v.opening.limit < n) found_is (h.ran.ran.spent.0 e)
+
+  -- and else none of its draws did
+  pub never_gone : (end ≡ Spent → ⊥) → (s.core.part r).found ≤ v.opening.limit
+  never_gone other = subst (λ (n : ℕ). n ≤ v.opening.limit) found_is (at_most v.opening.limit port.found (λ lt. other (h.ran.ran.spent.1 lt)))
 
   pub unrefuted : list_any is_empty (added port.mine) ≡ false → IsUnrefuted (own r K)
   unrefuted none = ap (λ (I : List Entry). list_any is_empty (added I)) (sym mine_is) ∙ none

@@ -60,7 +60,7 @@ use Rattle.portfolio_run.specs.Room.{layout_of}
 use Rattle.portfolio_run.specs.Ruled.{schedule_of, IsRuled, IsRuledThrough}
 use Rattle.portfolio_run.specs.Solved.{is_verdict, kind_of, Holds, IsUnsettled, IsReached, IsSolved}
 use Rattle.portfolio_run.proofs.Cuts.{cut_whole, front_of_same, front_told}
-use Rattle.portfolio_run.proofs.Rulers.{AreRulers, all_rulers, rulers_learned, rulers_lines, rulers_of_no_ring, rulers_plain}
+use Rattle.portfolio_run.proofs.Rulers.{AreRulers, all_rulers, rulers_lines, rulers_of_no_ring, rulers_plain}
 use Rattle.portfolio_run.proofs.Spelling.{formula_on, spelled_from, wider}
 
 on_variables : (L : List Line) → CanBeSpelled L → OnVariables L
@@ -70,7 +70,7 @@ in_vars : (l : Layout) (lits : List Literal) → All (IsOn l.vars) lits → InVa
 in_vars l lits on k d lt = let h = on k d lt in (h.low, h.high)
 
 module _ (plan : Plan) (formula : FormulaData) (old now : LineState) (result : Result Outcome LineStop) (tally : List Counts) (few : formula.vars ≤ 2 ^ 30) (on : All (All (IsOn formula.vars)) formula.clauses)
-    (rings : 1 ≤ plan.threads) (some : 1 ≤ plan.conflicts) (none : (tally ≡ []) ⊎ (tally ≡ replicate plan.threads no_counts)) (unspent : old.spent ≡ false) (begins : old.entries ≡ 0) (last_is : old.last ≡ length formula.clauses)
+    (rings : 1 ≤ plan.threads) (none : (tally ≡ []) ⊎ (tally ≡ replicate plan.threads no_counts)) (unspent : old.spent ≡ false) (begins : old.entries ≡ 0) (last_is : old.last ≡ length formula.clauses)
     (was : Ruled formula (schedule_of plan) old now result) where
   abbrev F : List (List Literal)
   F = formula.clauses
@@ -78,7 +78,7 @@ module _ (plan : Plan) (formula : FormulaData) (old now : LineState) (result : R
   abbrev J : List Entry
   J = was.journal
 
-  rulers : AreRulers J
+  pub rulers : AreRulers J
   rulers = was.stands.rulers
 
   -- the variables that are left, which may be more than the formula's
@@ -122,11 +122,11 @@ module _ (plan : Plan) (formula : FormulaData) (old now : LineState) (result : R
   abbrev held : IsHeld plan.threads plan.slots plan.conflicts F J tally
   held = inl (record { rulers = (all_rulers J rulers).1; none = none })
 
-  pub unsettled : IsUnrefuted J → IsUnsettled plan.threads plan.conflicts J
+  pub unsettled : IsUnrefuted J → IsUnsettled held
   unsettled going = record {
     ring = 0;
     below = omega arith;
-    fewer = (let n = ap (λ (cs : List (List Literal)). length cs) (rulers_learned 0 J rulers) in omega (arith, n, some));
+    tickets = tt;
     going = subst IsUnrefuted (sym (rulers_of_no_ring 0 (omega arith) J rulers)) refl;
     rulers = subst IsUnrefuted (sym (all_rulers J rulers).0) going;
   }
@@ -146,14 +146,14 @@ module _ (plan : Plan) (formula : FormulaData) (old now : LineState) (result : R
       }
 
   -- no ring ran, and the ruler came to this kind of stop
-  is_reached : (answer : Answer) (kind : ℕ) → kind_of answer ≡ Some kind → kind ≢ STOP_SAT → Holds plan vars formula J answer → (is_verdict answer ≡ true → IsRuledThrough formula (schedule_of plan) J) → (kind ≡ STOP_PROOF → Rose old.faults now.faults)
+  is_reached : (answer : Answer) (kind : ℕ) → kind_of answer ≡ Some kind → kind ≢ STOP_SAT → Holds plan vars formula J held answer → (is_verdict answer ≡ true → IsRuledThrough formula (schedule_of plan) J) → (kind ≡ STOP_PROOF → Rose old.faults now.faults)
       → (kind ≢ STOP_PROOF → now.faults ≡ old.faults) → IsReached plan formula answer tally old.faults now.faults J
   is_reached answer kind is other holds through rose still = record {
     stands = journal_stands;
     ruled = ruled;
     held = held;
     stop = (λ e. other (some_same kind STOP_SAT (sym is ∙ e)), λ e. none_some kind (sym e ∙ is));
-    holds = subst (λ (n : ℕ). Holds plan n formula J answer) (sym ruled_vars) holds;
+    holds = subst (λ (n : ℕ). Holds plan n formula J held answer) (sym ruled_vars) holds;
     through = through;
     faults_fit = record {
       rose = λ e. rose (some_same kind STOP_PROOF (sym is ∙ e));
@@ -224,7 +224,7 @@ module _ {S : Type 0} {d : Ghosts S} (written flushed target : S → Option (Lis
       → IsCutLog written flushed target faults f sink b l F J
 
   module _ (sink : S) (plan : Plan) (formula : FormulaData) (b : Book S d) (result : Result Outcome LineStop) (tally : List Counts) (few : formula.vars ≤ 2 ^ 30) (on : All (All (IsOn formula.vars)) formula.clauses)
-      (rings : 1 ≤ plan.threads) (some : 1 ≤ plan.conflicts) (none : tally ≡ replicate plan.threads no_counts) (was : WasRuled written flushed target faults sink plan formula b result) where
+      (rings : 1 ≤ plan.threads) (none : tally ≡ replicate plan.threads no_counts) (was : WasRuled written flushed target faults sink plan formula b result) where
     abbrev F' : List (List Literal)
     F' = formula.clauses
 
@@ -250,10 +250,10 @@ module _ {S : Type 0} {d : Ghosts S} (written flushed target : S → Option (Lis
     layout_over = layout_of plan
 
     lines_are : HasLines (work_origin formula before) rulers_journal left_vars told
-    lines_are = has_lines plan formula before told result tally few on rings some (inr none) refl refl refl was.ruled
+    lines_are = has_lines plan formula before told result tally few on rings (inr none) refl refl refl was.ruled
 
     filled_book : told.spent ≡ false → IsFilled (begun F' before) rulers_journal told
-    filled_book = filled plan formula before told result tally few on rings some (inr none) refl refl refl was.ruled
+    filled_book = filled plan formula before told result tally few on rings (inr none) refl refl refl was.ruled
 
     records_whole : LogLaw b → b.log.lines.spent ≡ false → Records written flushed target faults plan.format sink F' rulers_journal b
     records_whole law q =
@@ -276,10 +276,10 @@ module _ {S : Type 0} {d : Ghosts S} (written flushed target : S → Option (Lis
     asked law q = (law F' rulers_journal (layout_over left_vars) plan.format sink plan.keep_lines was.empty (filled_book q)).1.keeps
 
     pub refuted_book : LogLaw b → CutLaw b → result ≡ Ok NoModel → HasReached written flushed target faults sink plan formula Unsat tally b
-    refuted_book law cut is = record { journal = rulers_journal; records = records law cut; reached = refuted plan formula before told result tally few on rings some (inr none) refl refl refl was.ruled is; asked = asked law }
+    refuted_book law cut is = record { journal = rulers_journal; records = records law cut; reached = refuted plan formula before told result tally few on rings (inr none) refl refl refl was.ruled is; asked = asked law }
 
     pub stopped_book : LogLaw b → CutLaw b → (why : LineStop) → result ≡ Err why → HasReached written flushed target faults sink plan formula (stopped_answer why) tally b
-    stopped_book law cut why is = record { journal = rulers_journal; records = records law cut; reached = stopped plan formula before told result tally few on rings some (inr none) refl refl refl was.ruled why is; asked = asked law }
+    stopped_book law cut why is = record { journal = rulers_journal; records = records law cut; reached = stopped plan formula before told result tally few on rings (inr none) refl refl refl was.ruled why is; asked = asked law }
 
     -- something is left
     module _ (left : Simplified) (is : result ≡ Ok (LeftOver left)) where
@@ -302,13 +302,13 @@ module _ {S : Type 0} {d : Ghosts S} (written flushed target : S → Option (Lis
       unmade_book law cut why s = record {
         journal = rulers_journal;
         records = records law cut;
-        reached = unmade plan formula before told result tally few on rings some (inr none) refl refl refl was.ruled table_layout (ap (layout_of plan) vars_are) left is why s;
+        reached = unmade plan formula before told result tally few on rings (inr none) refl refl refl was.ruled table_layout (ap (layout_of plan) vars_are) left is why s;
         asked = asked law;
       }
 
       -- a table may be made
-      pub may_begin : plan.threads ≤ 16 → plan.words ≤ 2 ^ 31 → 1 ≤ plan.slots → plan.slots ≤ 16 → MayBegin F' (layout_over left.vars) rulers_journal left.start.items left.units.items
-      may_begin few_rings few_words some_slot few_slots =
+      pub may_begin : plan.threads ≤ 16 → plan.conflicts ≤ 10 ^ 12 → plan.words ≤ 2 ^ 31 → 1 ≤ plan.slots → plan.slots ≤ 16 → MayBegin F' (layout_over left.vars) rulers_journal left.start.items left.units.items
+      may_begin few_rings few_lemmas few_words some_slot few_slots =
           let entries = (filled_book left_unspent).entries in
           let small = b.few in
           let on_left = left_answer.0.on in
@@ -325,6 +325,7 @@ module _ {S : Type 0} {d : Ghosts S} (written flushed target : S → Option (Lis
             few_entries = omega arith;
             starts = λ k x lt. in_vars table_layout (slice_index_or left.start.items k x).1 (on_left.start k x lt);
             units = in_vars table_layout left.units.items on_left.units;
+            limited = omega arith;
           }
 
       -- over the book, which began with the sink
@@ -333,14 +334,14 @@ module _ {S : Type 0} {d : Ghosts S} (written flushed target : S → Option (Lis
       has_log law = law F' rulers_journal table_layout plan.format sink plan.keep_lines was.empty (filled_book left_unspent)
 
 -- memory ran out before a line was put, and the sink was flushed
-pub starved : (plan : Plan) (formula : FormulaData) (tally : List Counts) (before faults : ℕ) (flushed written : Option (List ℕ)) → formula.vars ≤ 2 ^ 30 → All (All (IsOn formula.vars)) formula.clauses → 1 ≤ plan.threads → 1 ≤ plan.conflicts
+pub starved : (plan : Plan) (formula : FormulaData) (tally : List Counts) (before faults : ℕ) (flushed written : Option (List ℕ)) → formula.vars ≤ 2 ^ 30 → All (All (IsOn formula.vars)) formula.clauses → 1 ≤ plan.threads
     → (tally ≡ []) ⊎ (tally ≡ replicate plan.threads no_counts) → IsEmptyWhereTold written → before ≤ faults → IsClosed before faults flushed written → IsSolved plan formula Memory tally before faults flushed written None
-starved plan formula tally before faults flushed written few on rings some none empty later closed =
+starved plan formula tally before faults flushed written few on rings none empty later closed =
     let old : LineState = record { format = plan.format; entries = 0; last = length formula.clauses; spent = false; faults = before; written = written; target = None; flushed = None; kept = None } in
     let was : Ruled formula (schedule_of plan) old old (Err line_stop.Memory) = none_made formula (schedule_of plan) old refl refl refl on old refl in
-    let h : IsReached plan formula Memory tally before before was.journal = stopped plan formula old old (Err line_stop.Memory) tally few on rings some none refl refl refl was line_stop.Memory refl in
+    let h : IsReached plan formula Memory tally before before was.journal = stopped plan formula old old (Err line_stop.Memory) tally few on rings none refl refl refl was line_stop.Memory refl in
     let bytes : List ℕ = proof_bytes plan.format (lines formula.clauses was.journal) in
-    let holds : HoldsText written bytes = told_text written bytes empty ((has_lines plan formula old old (Err line_stop.Memory) tally few on rings some none refl refl refl was).whole refl).bytes in
+    let holds : HoldsText written bytes = told_text written bytes empty ((has_lines plan formula old old (Err line_stop.Memory) tally few on rings none refl refl refl was).whole refl).bytes in
     record {
       journal = was.journal;
       found = Memory;

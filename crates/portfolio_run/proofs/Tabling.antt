@@ -43,7 +43,7 @@ use Rattle.portfolio_run.proofs.Concluded.{concluded}
 use Rattle.portfolio_run.proofs.Ruling.{LogLaw, CutLaw, has_log, unmade_book}
 
 module _ {S : Type 0} {d : Ghosts S} (written flushed target : S → Option (List ℕ)) (faults : S → ℕ) (sink : S) (plan : Plan) (F : FormulaData) (b : Book S d) (left : Simplified)
-    (few : F.vars ≤ 2 ^ 30) (on : All (All (IsOn F.vars)) F.clauses) (rings : 1 ≤ plan.threads) (some : 1 ≤ plan.conflicts) (empty : IsEmptyWhereTold (written sink))
+    (few : F.vars ≤ 2 ^ 30) (on : All (All (IsOn F.vars)) F.clauses) (rings : 1 ≤ plan.threads) (empty : IsEmptyWhereTold (written sink))
     (J : List Entry) (wrote : WroteSo (run_to written flushed target faults sink plan F b (Ok (LeftOver left))) J) (law : LogLaw written flushed target faults b) where
   abbrev was : WasRuled written flushed target faults sink plan F b (Ok (LeftOver left))
   was = record { empty = empty; ruled = wrote.ruled }
@@ -55,7 +55,7 @@ module _ {S : Type 0} {d : Ghosts S} (written flushed target : S → Option (Lis
   origin = origin_of written flushed target faults b
 
   abbrev wide : Layout
-  wide = record { rings = plan.threads; vars = left.vars; words = plan.words; depth = plan.slots }
+  wide = record { rings = plan.threads; vars = left.vars; words = plan.words; depth = plan.slots; conflicts = plan.conflicts }
 
   -- why there is no table
   abbrev Refused : Type 0
@@ -70,7 +70,7 @@ module _ {S : Type 0} {d : Ghosts S} (written flushed target : S → Option (Lis
         → IfOk r (λ m. m.2.items ≡ addresses (starts_at (first_cell l) ss))
         → IfOk r (λ m. IsOpened written flushed target faults sink plan F left m.0 m.1 m.2.items)
     opened us us_is (Ok m) made cells =
-        let from = (has_log written flushed target faults sink plan F b (Ok (LeftOver left)) none few on rings some refl was left refl law).1 in
+        let from = (has_log written flushed target faults sink plan F b (Ok (LeftOver left)) none few on rings refl was left refl law).1 in
         record {
           book = b;
           was = was;
@@ -92,7 +92,7 @@ module _ {S : Type 0} {d : Ghosts S} (written flushed target : S → Option (Lis
     unmade cut (Err e) stopped back = λ tally is.
         let stop : IsMakeStop wide left.start.items e.why = subst (λ (y : Layout × List (ℕ × List Literal)). IsMakeStop y.0 y.1 e.why) (λ i. (l_is i, ss_is i)) stopped in
         subst (λ (x : Book S d). HasReached written flushed target faults sink plan F (unmade_answer e.why) tally x) (sym back)
-        (unmade_book written flushed target faults sink plan F b (Ok (LeftOver left)) tally few on rings some is was left refl law cut e.why stop)
+        (unmade_book written flushed target faults sink plan F b (Ok (LeftOver left)) tally few on rings is was left refl law cut e.why stop)
 
 -- Before the search, and after it
 
@@ -123,12 +123,12 @@ all_counted t v home plan vars stack p before tally answer as_many (inl h) = ap 
 all_counted t v home plan vars stack p before tally answer as_many (inr h) = ap (λ (ds : List Counts). length ds) h.tally_is ∙ as_many
 
 module _ {S : Type 0} {d : Ghosts S} (written flushed target : S → Option (List ℕ)) (faults : S → ℕ) (sink : S) (plan : Plan) (F : FormulaData) (few : F.vars ≤ 2 ^ 30) (on : All (All (IsOn F.vars)) F.clauses)
-    (rings : 1 ≤ plan.threads) (few_rings : plan.threads ≤ 16) (some : 1 ≤ plan.conflicts) (t : Shared (Book S d)) (p : Seat (Option (Book S d)) View) (tally : List Counts) (answer : Answer)
+    (rings : 1 ≤ plan.threads) (few_rings : plan.threads ≤ 16) (t : Shared (Book S d)) (p : Seat (Option (Book S d)) View) (tally : List Counts) (answer : Answer)
     (h : HasSettled written flushed target faults sink plan F t p tally answer) where
   module _ (b : Book S d) (s : Seen p.me.0) (fault : Bool) (stands : StandsFor account_of (IsLogOf written flushed target faults) b p.me.0.origin p.me.0.layout p.me.0.opening s.core.journal fault) (tells : TellsFaults p.me.0.parts fault) where
     -- the answer holds over the journal to which the book has come
     pub settled_reached : HasReached written flushed target faults sink plan F answer tally b
     settled_reached =
-        concluded written flushed target faults sink plan F h.opened.book h.left t.layout h.opened.origin few on some rings few_rings h.opened.was
+        concluded written flushed target faults sink plan F h.opened.book h.left t.layout h.opened.origin few on rings few_rings h.opened.was
         h.opened.layout_is h.opened.format_is h.opened.faults_are h.opened.target_is h.opened.keeps_are
         t h.home p tally answer b s fault stands tells h.first.me.0 (replicate plan.threads no_counts) (ap (λ (x : View × List (ℕ × Option (Book S d))). x.0) h.opened.me) refl h.searched

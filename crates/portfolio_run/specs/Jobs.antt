@@ -1,11 +1,11 @@
 -- Runs of rings, each as the contract of a run says.
-use Rattle.std.specs.Prelude.{◌≡◌, ◌≤◌, ◌+◌, ◌↔◌, [], All, Option, Some, None}
+use Rattle.std.specs.Prelude.{◌≡◌, ◌<◌, ◌+◌, ◌↔◌, [], All, Option, Some, None}
 use Rattle.ring_port.specs.PortState.{PortState, IsPort, HoldsStart}
 use Rattle.ring_run.specs.declared.job.Counts.{Counts}
 use Rattle.ring_run.specs.declared.job.End.{End}
 use Rattle.ring_run.specs.declared.job.End.TheVariants.{Spent}
 use Rattle.ring_run.specs.declared.job.Job.{Job}
-use Rattle.ring_run.specs.Ended.{IsJobOf, IsUntouched, Stays, IsOwn, IsCounted, HasRestarted, HasPolled, ImportsBy, IsTidy, ReducesBy, AreNew, AreNewLines, AreSpaced, AreTimely, HoldsGlued, HoldsRecent, HasLooked, last_looks, Ends}
+use Rattle.ring_run.specs.Ended.{IsJobOf, IsUntouched, Stays, IsOwn, IsCounted, HasRestarted, HasDrawnFor, TicketsAt, HasPolled, ImportsBy, IsTidy, ReducesBy, AreNew, AreNewLines, AreSpaced, AreTimely, HoldsGlued, HoldsRecent, HasLooked, last_looks, Ends}
 use Rattle.ring_run.specs.Turn.{HasRun as RingHasRun}
 
 -- the job is this port's, which has done nothing yet
@@ -27,13 +27,14 @@ pub record RanTo (old : PortState) (job : Job) (new : PortState) (end : End) (co
   pub lately : HoldsRecent new
   pub looked : HasLooked (old.looks + counts.learned + last_looks end) new
   pub counted : IsCounted new counts
-  pub restarted : HasRestarted old.ring job.conflicts counts
+  pub restarted : HasRestarted old.ring counts
   pub polled : HasPolled new counts.restarts end
   pub imported : ImportsBy old new counts.restarts end
   pub tidied : old.waiting ≡ [] → IsTidy new end
   pub in_time : ReducesBy new counts end
-  pub within : counts.learned ≤ job.conflicts
-  pub spent : (end ≡ Spent) ↔ (counts.learned ≡ job.conflicts)
+  pub drawn : HasDrawnFor new counts.learned
+  pub tickets : TicketsAt new end
+  pub spent : (end ≡ Spent) ↔ (new.limit < new.found)
   pub ends : Ends new end
   pub ran : RingHasRun old new job end counts
   pub port : IsPort new

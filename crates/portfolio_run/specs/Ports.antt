@@ -15,7 +15,7 @@ begun_at v home ring = begun_as (record v { stop = None; looks = 0 }) ring home
 
 -- what the ring is known
 abbrev pub job_at : View → Plan → ℕ → Job
-job_at v plan ring = record { ring = ring; rings = v.opening.rings; vars = v.layout.vars; start = addresses v.opening.starts; conflicts = plan.conflicts; seed = plan.seed; walk = plan.walk }
+job_at v plan ring = record { ring = ring; rings = v.opening.rings; vars = v.layout.vars; start = addresses v.opening.starts; seed = plan.seed; walk = plan.walk }
 
 -- the ring's port and its job are those
 pub record IsMade (v : View) (home : List ℕ) (plan : Plan) (ring : ℕ) (made : RingJob PortState) : Type 0 where

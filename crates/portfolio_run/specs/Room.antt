@@ -10,9 +10,9 @@ use Rattle.share_rule.specs.FirstWords.{IsNoHole}
 use Rattle.share_rule.specs.Tight.{IsTight, numbered, program_core}
 use Rattle.portfolio_run.specs.declared.plan.Plan.{Plan}
 
--- the layout of a table for the plan's rings, words and slots, over so many variables
+-- the layout of a table for the plan's rings, words, slots and lemmas, over so many variables
 abbrev pub layout_of : Plan → ℕ → Layout
-layout_of plan vars = record { rings = plan.threads; vars = vars; words = plan.words; depth = plan.slots }
+layout_of plan vars = record { rings = plan.threads; vars = vars; words = plan.words; depth = plan.slots; conflicts = plan.conflicts }
 
 -- The clauses lie in the table's words as the journal has it, each at the front of the first free range that is long enough. A start
 -- clause of the program's opening came next, or after a front of the journal a clause might come next, which needed more words

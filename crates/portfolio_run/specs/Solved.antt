@@ -10,7 +10,7 @@ use Rattle.sat_words.specs.declared.line.ProofFormat.{ProofFormat}
 use Rattle.sat_words.specs.declared.shared.TheConstants.{STOP_SAT, STOP_REFUTED, STOP_ROOM, STOP_PROOF, STOP_MEMORY}
 use Rattle.rup_model.specs.declared.journal.Entry.{Entry}
 use Rattle.rup_model.specs.Log.{Refutes}
-use Rattle.rup_model.specs.Journal.{ring_of, lines, learned}
+use Rattle.rup_model.specs.Journal.{ring_of, lines}
 use Rattle.rup_model.specs.Spent.{SpentAll, ruler_part}
 use Rattle.drat_text.specs.Spelling.{proof_bytes}
 use Rattle.log_book.specs.Ended.{IsClosed}
@@ -19,7 +19,7 @@ use Rattle.ring_run.specs.declared.job.Counts.{Counts}
 use Rattle.portfolio_run.specs.declared.answer.Answer.{Answer}
 use Rattle.portfolio_run.specs.declared.answer.Answer.TheVariants.{Sat, Unsat, Unknown, NoHole, ProofFault, Memory}
 use Rattle.portfolio_run.specs.declared.plan.Plan.{Plan}
-use Rattle.portfolio_run.specs.Held.{IsHeld, HasStop}
+use Rattle.portfolio_run.specs.Held.{IsHeld, HasStop, NeverGone}
 use Rattle.portfolio_run.specs.Journaled.{IsJournal, IsUnrefuted, IsCutShort}
 use Rattle.portfolio_run.specs.Room.{HasNoRoom}
 use Rattle.portfolio_run.specs.Ruled.{schedule_of, IsRuled, IsRuledThrough}
@@ -34,11 +34,11 @@ pub record IsRefutation (clauses : List (List Literal)) (journal : List Entry) :
   pub refuted : Refutes clauses (lines clauses journal)
   pub no_model : (model : List Bool) → formula_true model clauses ≡ true → ⊥
 
--- one of the rings has learned fewer lemmas than it may, and neither it nor the ruler has added the empty clause
-pub record IsUnsettled (rings limit : ℕ) (journal : List Entry) : Type 0 where
+-- no draw of one of the rings has found all tickets gone, and neither it nor the ruler has added the empty clause
+pub record IsUnsettled {rings slots limit : ℕ} {clauses : List (List Literal)} {journal : List Entry} {tally : List Counts} (held : IsHeld rings slots limit clauses journal tally) : Type 0 where
   pub ring : ℕ
   pub below : ring < rings
-  pub fewer : length (learned ring journal) < limit
+  pub tickets : NeverGone held ring
   pub going : IsUnrefuted (filter (λ e. ring_of e == ring) journal)
   pub rulers : IsUnrefuted (ruler_part journal)
 
@@ -60,17 +60,18 @@ unfinished (NoHole lack) = NoHole lack
 unfinished ProofFault = ProofFault
 unfinished Memory = Memory
 
--- what the answer says of the formula and the journal, if a table is over so many variables: a model; a refutation; each ring has
--- learned its limit of lemmas, each of them new; there was no room for what came next
-abbrev pub Holds : Plan → ℕ → FormulaData → List Entry → Answer → Type 0
-Holds plan vars formula journal (Sat model) = IsModel formula model
-Holds plan vars formula journal Unsat = IsRefutation formula.clauses journal
-Holds plan vars formula journal Unknown = SpentAll formula.clauses journal plan.threads plan.conflicts
-Holds plan vars formula journal (NoHole lack) = HasNoRoom plan vars formula.clauses journal lack × IsUnsettled plan.threads plan.conflicts journal
-Holds plan vars formula journal ProofFault = ⊤
-Holds plan vars formula journal Memory = IsUnsettled plan.threads plan.conflicts journal
+-- what the answer says of the formula, the journal and the rings' steps, if a table is over so many variables: a model; a
+-- refutation; the rings together have learned as many lemmas as they may, each of them new; there was no room for what came next, or
+-- no memory, before all was settled
+abbrev pub Holds : (plan : Plan) → ℕ → (formula : FormulaData) → (journal : List Entry) → {tally : List Counts} → IsHeld plan.threads plan.slots plan.conflicts formula.clauses journal tally → Answer → Type 0
+Holds plan vars formula journal held (Sat model) = IsModel formula model
+Holds plan vars formula journal held Unsat = IsRefutation formula.clauses journal
+Holds plan vars formula journal held Unknown = SpentAll formula.clauses journal plan.threads plan.conflicts
+Holds plan vars formula journal held (NoHole lack) = HasNoRoom plan vars formula.clauses journal lack × IsUnsettled held
+Holds plan vars formula journal held ProofFault = ⊤
+Holds plan vars formula journal held Memory = IsUnsettled held
 
--- the kind of the stop with which the rings come to this answer, and with none if each is spent
+-- the kind of the stop with which the rings come to this answer, and with none if each of them is spent
 abbrev pub kind_of : Answer → Option ℕ
 kind_of (Sat model) = Some STOP_SAT
 kind_of Unsat = Some STOP_REFUTED
@@ -93,7 +94,7 @@ pub record IsReached (plan : Plan) (formula : FormulaData) (answer : Answer) (ta
   pub ruled : IsRuled formula (schedule_of plan) journal
   pub held : IsHeld plan.threads plan.slots plan.conflicts formula.clauses journal tally
   pub stop : HasStop held (kind_of answer)
-  pub holds : Holds plan ruled.work.vars formula journal answer
+  pub holds : Holds plan ruled.work.vars formula journal held answer
   pub through : is_verdict answer ≡ true → IsRuledThrough formula (schedule_of plan) journal
   pub faults_fit : FaultsFit plan formula journal before searched (kind_of answer)
 

@@ -23,8 +23,8 @@ use Rattle.portfolio_run.specs.Room.{layout_of}
 use Rattle.portfolio_run.specs.Searched.{HasSearched}
 
 module _ {S : Type 0} {d : Ghosts S} (written flushed target : S → Option (List ℕ)) (faults : S → ℕ) where
-  -- the table is open over what the ruler left, on the variables that are left, for the plan's rings, words and slots; its first pass
-  -- knows no more than that, and the book's origin is the sink, with the plan's format
+  -- the table is open over what the ruler left, on the variables that are left, for the plan's rings, words, slots and lemmas; its
+  -- first pass knows no more than that, and the book's origin is the sink, with the plan's format
   pub record IsOpened (sink : S) (plan : Plan) (formula : FormulaData) (left : Simplified) (t : Shared (Book S d)) (p : Seat (Option (Book S d)) View) (cells : List Cref) : Type 0 where
     pub book : Book S d
     pub was : WasRuled written flushed target faults sink plan formula book (Ok (LeftOver left))

@@ -9,7 +9,7 @@ pub enum Answer {
     Sat(Assignment),
     /// No assignment does, and the log shows it.
     Unsat,
-    /// Each ring learned its limit of lemmas before one knew.
+    /// The rings together learned as many lemmas as they may before one knew.
     Unknown,
     /// There was too little room: for a start clause or a lemma, counted in words, or for one more entry of the log.
     NoHole(NoRoom),

@@ -5,7 +5,7 @@ use sat_words::ProofFormat;
 pub struct Plan {
     /// How many rings search, from 1 to 16.
     pub threads: u32,
-    /// How many lemmas each ring may learn, from 1.
+    /// How many lemmas the rings may learn together, up to 10^12.
     pub conflicts: u64,
     /// How many words of 64 bits there are for clauses, up to 2^31.
     pub words: u64,

@@ -29,7 +29,7 @@ fn job_of<S: Sink>(
     plan: &Plan,
     ring: u32,
 ) -> Result<Job, AllocError>
-    ensures { IfOk result (λ job. job ≡ record { ring = ring; rings = table.now.layout.rings; vars = table.now.layout.vars; start = start.now; conflicts = plan.now.conflicts; seed = plan.now.seed; walk = plan.now.walk }) }
+    ensures { IfOk result (λ job. job ≡ record { ring = ring; rings = table.now.layout.rings; vars = table.now.layout.vars; start = start.now; seed = plan.now.seed; walk = plan.now.walk }) }
 {
     let start = start.to_vec(alloc)?;
     Ok(Job {
@@ -37,7 +37,6 @@ fn job_of<S: Sink>(
         rings: table.layout.rings,
         vars: table.layout.vars,
         start: Addresses::from_vec(start),
-        conflicts: plan.conflicts,
         seed: plan.seed,
         walk: plan.walk,
     })
@@ -57,7 +56,6 @@ fn make_port<'a, S: Sink, G: Gate, H>(
     requires pass { IsAtRest table.now pass × (pass.me.0.stop ≡ None) × (pass.me.0.looks ≡ 0) }
     requires granted { pass.me.0.parts ≡ new_part pass.me.0.opening ring ∷ [] }
     requires start { start.now ≡ addresses pass.me.0.opening.starts }
-    requires some { 1 ≤ plan.now.conflicts }
     ensures made { IfOk result (λ made. IsMade pass.me.0 (home_of pass) plan.now ring made) }
     ensures ready { IfOk result (λ made. IsReady made.port made.job) }
     ensures back { IfErr result (λ refused. refused.value ≡ pass) }
@@ -134,7 +132,6 @@ pub(crate) fn make_ports<'a, S: Sink, G: Gate, H>(
     requires passes { AreBegun table.now first.now.me.0 passes.items }
     requires many { length passes.items ≤ 16 }
     requires start { start.now ≡ addresses first.now.me.0.opening.starts }
-    requires some { 1 ≤ plan.now.conflicts }
     ensures many { IfOk result (λ made. length made.items ≡ length passes.items) }
     ensures made { IfOk result (λ made. AreMade first.now.me.0 (home_of first.now) plan.now made.items) }
     ensures ready { IfOk result (λ made. All (λ r. IsReady r.port r.job) made.items) }

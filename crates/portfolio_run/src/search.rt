@@ -112,7 +112,6 @@ pub(crate) fn search<S: Sink + Send, G: Gate + Sync, H: Threads + Wait + Sync>(
     requires first { HasRightsFrom table.now first.old 0 }
     requires rings { (first.old.me.0.opening.rings ≡ plan.now.threads) × (1 ≤ plan.now.threads) × (plan.now.threads ≤ 16) }
     requires start { start.now ≡ addresses first.old.me.0.opening.starts }
-    requires some { 1 ≤ plan.now.conflicts }
     requires more { formula.now.vars ≤ table.now.layout.vars }
     requires fits { All (λ fix. fix.lit.var ≤ table.now.layout.vars) stack.now }
     requires tally { length tally.old.items ≡ plan.now.threads }

@@ -70,7 +70,6 @@ fn answer_of_hole(why: HoleStop) -> Answer
 /// Memory ran out before a line was put: the sink is flushed, and given back.
 fn starved<S: Sink>(sink: S, tally: Vec<Counts>, _formula: &Formula, _plan: &Plan) -> Solved<S>
     requires threads { 1 ≤ _plan.now.threads }
-    requires conflicts { 1 ≤ _plan.now.conflicts }
     requires few { _formula.now.vars ≤ 2 ^ 30 }
     requires on { All (All (IsOn _formula.now.vars)) _formula.now.clauses }
     requires empty { IsEmptyWhereTold (S.written sink) }
@@ -103,7 +102,7 @@ fn solve_noted<S: Sink + Send, G: Gate + Sync, H: Threads + Wait + Sync>(
 ) -> Solved<S>
     ghost known: { S × List Entry }
     requires threads { (1 ≤ plan.now.threads) × (plan.now.threads ≤ 16) }
-    requires conflicts { 1 ≤ plan.now.conflicts }
+    requires conflicts { plan.now.conflicts ≤ 10 ^ 12 }
     requires words { plan.now.words ≤ 2 ^ 31 }
     requires slots { (1 ≤ plan.now.slots) × (plan.now.slots ≤ 16) }
     requires few { formula.now.vars ≤ 2 ^ 30 }
@@ -151,7 +150,7 @@ fn solve_left<S: Sink + Send, G: Gate + Sync, H: Threads + Wait + Sync>(
 ) -> Solved<S>
     ghost known: { S × RulersRun }
     requires threads { (1 ≤ plan.now.threads) × (plan.now.threads ≤ 16) }
-    requires conflicts { 1 ≤ plan.now.conflicts }
+    requires conflicts { plan.now.conflicts ≤ 10 ^ 12 }
     requires words { plan.now.words ≤ 2 ^ 31 }
     requires slots { (1 ≤ plan.now.slots) × (plan.now.slots ≤ 16) }
     requires few { formula.now.vars ≤ 2 ^ 30 }
@@ -180,7 +179,7 @@ fn solve_counted<S: Sink + Send, G: Gate + Sync, H: Threads + Wait + Sync>(
     ghost given: { S }
     requires same { sink ≡ given }
     requires threads { (1 ≤ plan.now.threads) × (plan.now.threads ≤ 16) }
-    requires conflicts { 1 ≤ plan.now.conflicts }
+    requires conflicts { plan.now.conflicts ≤ 10 ^ 12 }
     requires words { plan.now.words ≤ 2 ^ 31 }
     requires slots { (1 ≤ plan.now.slots) × (plan.now.slots ≤ 16) }
     requires few { formula.now.vars ≤ 2 ^ 30 }
@@ -214,8 +213,8 @@ fn solve_counted<S: Sink + Send, G: Gate + Sync, H: Threads + Wait + Sync>(
 /// Decides a formula: simplifies it in the plan's rounds, and searches what is left for a model with the plan's rings, each on
 /// a thread of its own if threads can be made. All lines go to the sink, which comes back with each answer, flushed.
 ///
-/// The first ring that finds a model, refutes the formula or is stopped for want of something decides; if none does, each
-/// ring has learned its limit of lemmas.
+/// The first ring that finds a model, refutes the formula or is stopped for want of something decides; if none does, the
+/// rings together have learned as many lemmas as the plan allows.
 pub fn solve<S: Sink + Send, G: Gate + Sync, H: Threads + Wait + Sync>(
     rt: &H,
     alloc: Global,
@@ -225,7 +224,7 @@ pub fn solve<S: Sink + Send, G: Gate + Sync, H: Threads + Wait + Sync>(
     gate: &G,
 ) -> Solved<S>
     requires threads { (1 ≤ plan.now.threads) × (plan.now.threads ≤ 16) }
-    requires conflicts { 1 ≤ plan.now.conflicts }
+    requires conflicts { plan.now.conflicts ≤ 10 ^ 12 }
     requires words { plan.now.words ≤ 2 ^ 31 }
     requires slots { (1 ≤ plan.now.slots) × (plan.now.slots ≤ 16) }
     requires few { formula.now.vars ≤ 2 ^ 30 }

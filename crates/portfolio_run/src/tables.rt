@@ -36,7 +36,7 @@ pub(crate) fn open_table<S: Sink>(
 ) -> Result<Opened<S>, MakeStop<Book<S>>>
     ghost known: { S × List Entry }
     requires threads { (1 ≤ plan.now.threads) × (plan.now.threads ≤ 16) }
-    requires conflicts { 1 ≤ plan.now.conflicts }
+    requires conflicts { plan.now.conflicts ≤ 10 ^ 12 }
     requires words { plan.now.words ≤ 2 ^ 31 }
     requires slots { (1 ≤ plan.now.slots) × (plan.now.slots ≤ 16) }
     requires few { formula.now.vars ≤ 2 ^ 30 }
@@ -52,6 +52,7 @@ pub(crate) fn open_table<S: Sink>(
         vars: left.vars,
         words: plan.words,
         depth: plan.slots,
+        conflicts: plan.conflicts,
     };
     make(
         alloc,
@@ -74,7 +75,6 @@ pub(crate) fn close_table<S: Sink>(
 ) -> Solved<S>
     ghost sink: { S }
     requires threads { (1 ≤ plan.now.threads) × (plan.now.threads ≤ 16) }
-    requires conflicts { 1 ≤ plan.now.conflicts }
     requires few { formula.now.vars ≤ 2 ^ 30 }
     requires on { All (All (IsOn formula.now.vars)) formula.now.clauses }
     requires settled { HasSettled S.written S.flushed S.target S.faults sink plan.now formula.now table first tally.items answer }

@@ -4,7 +4,7 @@ use Rattle.std.proofs.lemmas.Bool.{cases_Bool, cases_lt}
 use Rattle.std.proofs.lemmas.Bool.Decides.{nat_tests}
 use Rattle.std.specs.List.{sum}
 use Rattle.restart_plan.specs.Luby.{luby, luby_sum}
-use Rattle.restart_plan.specs.Plan.{Restarting, IsRestarting, IsExact, AreMost, AreMostBefore, begun, noted, asked, is_due, is_due_odd, is_due_even, restarted}
+use Rattle.restart_plan.specs.Plan.{Restarting, IsRestarting, IsExact, AreMost, begun, noted, asked, is_due, is_due_odd, is_due_even, restarted}
 use Rattle.restart_plan.proofs.LubyLemmas.{luby_some, sum_next, sum_none, sums_grow}
 
 le_of : (m n : ℕ) → nat_le m n ≡ true → m ≤ n
@@ -65,17 +65,4 @@ exact-most r k i = (fits, allowed)
         ]
 
     allowed : i ≤ r.made → 64 * luby_sum i ≤ r.count
-    allowed h = let g = sums_le i r.made h in let a = k.all in omega arith
-
-pub exact-before : (r : Restarting) (glue : ℕ) → IsExact r → AreMostBefore (noted r glue).made (noted r glue).count
-exact-before r glue k i = (fits, allowed)
-  where
-    fits : 64 * luby_sum i < r.count + 1 → i ≤ r.made
-    fits h =
-        elim (cases_lt r.made i) as (λ _. i ≤ r.made) [
-          | inl l ↦ absurd (let g = sums_le (r.made + 1) i (omega arith) in let s = sum_next r.made in let a = k.all in let o = k.open_yet in omega arith)
-          | inr g ↦ g
-        ]
-
-    allowed : i ≤ r.made → 64 * luby_sum i < r.count + 1
     allowed h = let g = sums_le i r.made h in let a = k.all in omega arith

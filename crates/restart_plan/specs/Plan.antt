@@ -71,7 +71,3 @@ pub record IsExact (r : Restarting) : Type 0 where
 -- this many restarts are the most that this many lemmas allow by Luby's sequence
 abbrev pub AreMost : (made count : ℕ) → Type 0
 AreMost made count = (k : ℕ) → (luby_unit * luby_sum k ≤ count) ↔ (k ≤ made)
-
--- the same if the last of the lemmas was not followed by the question
-abbrev pub AreMostBefore : (made count : ℕ) → Type 0
-AreMostBefore made count = (k : ℕ) → (luby_unit * luby_sum k < count) ↔ (k ≤ made)

@@ -1,6 +1,6 @@
 -- A turn of the log that adds a clause.
 use Rattle.io_edge.specs.declared.edge.Sink.{Ghosts}
-use Rattle.std.proofs.Common.{◌≡◌, ℕ, suc, Bool, true, not, List, [], ◌∷◌, ◌++◌, sym, ap, subst, ◌∙◌, arith, Option}
+use Rattle.std.proofs.Common.{◌≡◌, ℕ, suc, ◌&&◌, Bool, true, not, List, [], ◌∷◌, ◌++◌, sym, ap, subst, ◌∙◌, arith, Option}
 use Rattle.std.specs.Prelude.{Result, Ok, Err, IfOk, IfErr}
 use Rattle.std.specs.List.{list_any}
 use Rattle.sat_words.specs.Literal.{Literal}
@@ -33,7 +33,7 @@ use Rattle.ring_pass.proofs.TurnsHere.{HasTurn, turn_taken, failed_taken, sheet_
 -- a clause may be added if it is fresh to the ring's own entries
 pub may_add : (v : View) (J : List Entry) (kind : Kind) (lits : List Literal) → KnowsJournal v J → MayAddClause v.opening (entries_of (only v)) (only v).core (only v).core.ring kind lits → MayAddClause v.opening J (only v).core (only v).core.ring kind lits
 may_add v J Ruler lits k h = h
-may_add v J Learn lits k h = (λ i. not (list_any (includes lits) (start_clauses (opening_of v.opening) ++ k.recent_is i))) ∙ h
+may_add v J Learn lits k h = (λ i. (only v).core.ticket && not (list_any (includes lits) (start_clauses (opening_of v.opening) ++ k.recent_is i))) ∙ h
 may_add v J Derive lits k h = h
 may_add v J UnitLine lits k h = h
 

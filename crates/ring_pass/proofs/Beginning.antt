@@ -69,12 +69,13 @@ home_pass t t' p q a b e =
     let f1 = heads q.me.0.layout.vars p.me.0.layout.vars (drop 2 (home_of q)) (drop 2 (home_of p)) f0.1 in
     let f2 = heads q.me.0.layout.words p.me.0.layout.words (drop 3 (home_of q)) (drop 3 (home_of p)) f1.1 in
     let f3 = heads q.me.0.layout.depth p.me.0.layout.depth (drop 4 (home_of q)) (drop 4 (home_of p)) f2.1 in
-    let f4 = heads q.table_id.words p.table_id.words (drop 5 (home_of q)) (drop 5 (home_of p)) f3.1 in
-    let f5 = heads q.table_id.slots p.table_id.slots (drop 6 (home_of q)) (drop 6 (home_of p)) f4.1 in
-    let f6 = heads q.table_id.views_name p.table_id.views_name (drop 7 (home_of q)) (drop 7 (home_of p)) f5.1 in
-    let f7 = heads q.table_id.atom p.table_id.atom (drop 8 (home_of q)) (drop 8 (home_of p)) f6.1 in
-    let f8 = heads q.table_id.block p.table_id.block (drop 9 (home_of q)) (drop 9 (home_of p)) f7.1 in
-    let f9 = heads q.table_id.offset p.table_id.offset q.table_id.slot_names p.table_id.slot_names f8.1 in
-    let id : q.table_id ≡ p.table_id = λ i. record { words = f4.0 i; slots = f5.0 i; views_name = f6.0 i; atom = f7.0 i; block = f8.0 i; offset = f9.0 i; slot_names = f9.1 i } in
-    let lay : q.me.0.layout ≡ p.me.0.layout = λ i. record { rings = f0.0 i; vars = f1.0 i; words = f2.0 i; depth = f3.0 i } in
+    let f4 = heads q.me.0.layout.conflicts p.me.0.layout.conflicts (drop 5 (home_of q)) (drop 5 (home_of p)) f3.1 in
+    let f5 = heads q.table_id.words p.table_id.words (drop 6 (home_of q)) (drop 6 (home_of p)) f4.1 in
+    let f6 = heads q.table_id.slots p.table_id.slots (drop 7 (home_of q)) (drop 7 (home_of p)) f5.1 in
+    let f7 = heads q.table_id.views_name p.table_id.views_name (drop 8 (home_of q)) (drop 8 (home_of p)) f6.1 in
+    let f8 = heads q.table_id.atom p.table_id.atom (drop 9 (home_of q)) (drop 9 (home_of p)) f7.1 in
+    let f9 = heads q.table_id.block p.table_id.block (drop 10 (home_of q)) (drop 10 (home_of p)) f8.1 in
+    let f10 = heads q.table_id.offset p.table_id.offset q.table_id.slot_names p.table_id.slot_names f9.1 in
+    let id : q.table_id ≡ p.table_id = λ i. record { words = f5.0 i; slots = f6.0 i; views_name = f7.0 i; atom = f8.0 i; block = f9.0 i; offset = f10.0 i; slot_names = f10.1 i } in
+    let lay : q.me.0.layout ≡ p.me.0.layout = λ i. record { rings = f0.0 i; vars = f1.0 i; words = f2.0 i; depth = f3.0 i; conflicts = f4.0 i } in
     (id ∙ a.0, b.1, lay ∙ a.2, b.3)

@@ -45,7 +45,7 @@ use Rattle.ring_pass.proofs.PollsHere.{port_step, map_last, map_same}
 use Rattle.ring_pass.proofs.NextPlaces.{places_stay}
 use Rattle.ring_pass.proofs.RingPorts.{held_here, there_here, nothing_here, lits_here}
 use Rattle.ring_pass.proofs.Stays.{only_is}
-use Rattle.ring_pass.proofs.TurnsHere.{mine_last, ring_turns, room_turns, units_turns}
+use Rattle.ring_pass.proofs.TurnsHere.{mine_last, ticket_as, ring_turns, room_turns, units_turns}
 use Rattle.ring_pass.specs.Refusals.{answer_noted}
 
 -- Lists
@@ -131,6 +131,7 @@ module _ (v w : View) (o : Own) (home : List ℕ) (lits : List Literal) (glue : 
         ∙ (λ i. record (port_of v o) {
           held = new_held i;
           last = lm i;
+          ticket = ticket_as kind (only v).core.ticket i;
           waiting = map_same (only v).glues (record { number = f.number; glue = glue } ∷ (only v).glues) (only v).core.waiting (glues_keep f.number glue (only v).glues (only v).core.waiting f.waiting_apart) i;
           mine = mine_last (only v).core.wrote (placed_line f.place (only v).core.ring f.number lits kind) i;
         });

@@ -1,5 +1,5 @@
 -- What the port says after a clause was learned.
-use Rattle.std.proofs.Common.{◌≡◌, ℕ, ◌+◌, ◌-◌, ◌<◌, ◌≤◌, ◌==◌, true, not, List, [], ◌∷◌, ◌++◌, map, length, get_or, refl, sym, ap, subst, ◌∙◌, arith, Option, Some, None, IfSome, eq-eqb, length-append}
+use Rattle.std.proofs.Common.{◌≡◌, ℕ, ◌+◌, ◌-◌, ◌<◌, ◌≤◌, ◌==◌, ◌&&◌, true, not, List, [], ◌∷◌, ◌++◌, map, length, get_or, refl, sym, ap, subst, ◌∙◌, arith, Option, Some, None, IfSome, eq-eqb, length-append}
 use Rattle.std.specs.Prelude.{All}
 use Rattle.std.specs.List.{list_any}
 use Rattle.sat_words.specs.Literal.{Literal}
@@ -40,11 +40,12 @@ starts_same : (gs : List GlueAt) (hs : List ClauseAt) (o : CoreOpening) → map 
 starts_same gs [] o = refl
 starts_same gs (h ∷ hs) o = ap (λ (cs : List (List Literal)). h.lits ∷ cs) (starts_same gs hs o)
 
--- what is fresh to the port is fresh to the ring's own entries
-pub may_learn_here : (v : View) (o : Own) (s : PortState) (lits : List Literal) → port_of v o ≡ s → IsFreshClause s lits → may_learn v.opening (entries_of (only v)) (only v).core (only v).core.ring lits ≡ true
-may_learn_here v o s lits view h =
+-- with a ticket, what is fresh to the port is fresh to the ring's own entries
+pub may_learn_here : (v : View) (o : Own) (s : PortState) (lits : List Literal) → port_of v o ≡ s → s.ticket ≡ true → IsFreshClause s lits → may_learn v.opening (entries_of (only v)) (only v).core (only v).core.ring lits ≡ true
+may_learn_here v o s lits view ticket h =
+    let has : (only v).core.ticket ≡ true = ap (λ (y : PortState). y.ticket) view ∙ ticket in
     let f : IsFreshClause (port_of v o) lits = subst (λ (y : PortState). IsFreshClause y lits) (sym view) h in
-    (λ i. not (list_any (includes lits) (sym (starts_same (start_glues v.opening.starts) v.opening.starts v.opening) i ++ recent (only v).core.ring (entries_of (only v))))) ∙ f.own
+    (λ i. has i && not (list_any (includes lits) (sym (starts_same (start_glues v.opening.starts) v.opening.starts v.opening) i ++ recent (only v).core.ring (entries_of (only v))))) ∙ f.own
 
 -- Room
 

@@ -5,6 +5,7 @@ mod CanOffers
 mod CellsHere
 mod DeletesHere
 mod DerivesHere
+mod DrawsHere
 mod DropsHere
 mod EndsHere
 mod GivesBack

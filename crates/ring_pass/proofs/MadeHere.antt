@@ -12,6 +12,7 @@ use Rattle.rup_model.proofs.Sums.{below_at}
 use Rattle.share_core.specs.declared.stored.ClauseAt.{ClauseAt}
 use Rattle.share_core.specs.declared.stored.Cell.{Cell}
 use Rattle.share_core.specs.declared.part.Part.{Part}
+use Rattle.share_core.specs.Learning.{ticket_after}
 use Rattle.share_core.specs.State.{times_at, count_at, maker_at}
 use Rattle.share_core.specs.Sound.{Sound, IsCopy, counted, reach, idle_at}
 use Rattle.share_core.proofs.ClauseLists.{all_in, at_in}
@@ -159,6 +160,7 @@ module _ (v u : View) (kind : Kind) (lits : List Literal) (glue a number : ℕ) 
         held = (only v).core.held ++ making_same i ∷ [];
         making = last.core.making;
         wrote = (only v).core.wrote ++ placed_line (length h.wrote.journal) (only v).core.ring (sym h.number_is i) lits kind ∷ [];
+        ticket = ticket_after kind (only v).core.ticket;
       };
       glues = λ i. record { number = sym h.number_is i; glue = glue } ∷ (only v).glues;
       gave = refl;

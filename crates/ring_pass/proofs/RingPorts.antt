@@ -1,5 +1,5 @@
 -- A ring with its pass is a port.
-use Rattle.std.proofs.Common.{◌≡◌, ◌≢◌, ℕ, zero, suc, ◌<◌, ◌≤◌, Bool, true, false, not, ◌&&◌, if◌then◌else◌, List, [], ◌∷◌, ◌++◌, map, length, take, refl, sym, ap, subst, ◌∙◌, arith, Some, None, IfSome, IsSome, Option, ◌==◌, eq-eqb, ne_eqb}
+use Rattle.std.proofs.Common.{◌^◌, ◌≡◌, ◌≢◌, ℕ, zero, suc, ◌<◌, ◌≤◌, Bool, true, false, not, ◌&&◌, if◌then◌else◌, List, [], ◌∷◌, ◌++◌, map, length, take, refl, sym, ap, subst, ◌∙◌, arith, Some, None, IfSome, IsSome, Option, ◌==◌, eq-eqb, ne_eqb}
 use Rattle.std.specs.List.{All, find, slice_get}
 use Rattle.std.specs.Option.{option_map, option_map_or, is_none}
 use Rattle.std.proofs.lemmas.Bool.{false≢true}
@@ -216,6 +216,7 @@ module _ (v : View) (s : Seen v) (one : v.parts ≡ only v ∷ []) where
         stop = stop_on v.stop refl;
         ring = subst (λ (q : CoreOpening). (only v).core.ring < q.rings) (sym s.opening) part_of.ring;
         deep = subst (λ (q : CoreOpening). 1 ≤ q.depth) (sym s.opening) sound_of.opens.some_slot;
+        few = subst (λ (q : CoreOpening). q.limit < 2 ^ 64) (sym s.opening) (let le = sound_of.opens.limited in omega arith);
       }
 
 -- there is a ring at least, and the layout says how many there are
@@ -247,4 +248,4 @@ pub home_same : {B : Type 0} (t : Shared B) (p q : Seat (Option B) View) → IsP
 home_same t p q a b =
     let id : q.table_id ≡ p.table_id = b.0 ∙ sym a.0 in
     let lay : q.me.0.layout ≡ p.me.0.layout = b.2 ∙ sym a.2 in
-    λ i. (lay i).rings ∷ (lay i).vars ∷ (lay i).words ∷ (lay i).depth ∷ (id i).words ∷ (id i).slots ∷ (id i).views_name ∷ (id i).atom ∷ (id i).block ∷ (id i).offset ∷ (id i).slot_names
+    λ i. (lay i).rings ∷ (lay i).vars ∷ (lay i).words ∷ (lay i).depth ∷ (lay i).conflicts ∷ (id i).words ∷ (id i).slots ∷ (id i).views_name ∷ (id i).atom ∷ (id i).block ∷ (id i).offset ∷ (id i).slot_names

@@ -2,7 +2,7 @@
 use Rattle.io_edge.specs.declared.edge.Sink.{Ghosts}
 use mathlib.Core.Logic.{dite}
 use native.Mathlib.Decide.{ℕ_discrete}
-use Rattle.std.proofs.Common.{◌≡◌, ◌≢◌, ℕ, ◌<◌, ◌≤◌, Bool, true, false, not, ◌||◌, List, [], ◌∷◌, ◌++◌, map, length, refl, sym, ap, subst, ◌∙◌, inl, inr, arith, Option, Some, None, length-append}
+use Rattle.std.proofs.Common.{◌≡◌, ◌≢◌, ℕ, ◌<◌, ◌≤◌, Bool, true, false, not, ◌&&◌, ◌||◌, List, [], ◌∷◌, ◌++◌, map, length, refl, sym, ap, subst, ◌∙◌, inl, inr, arith, Option, Some, None, length-append}
 use Rattle.std.specs.Prelude.{slice_index_or, Result, Ok, Err, OnOk, IfErr}
 use Rattle.std.specs.List.{All, list_any}
 use Rattle.std.specs.Option.{option_map}
@@ -21,7 +21,7 @@ use Rattle.atomic_table.specs.declared.shared.Seat.{Seat}
 use Rattle.share_core.specs.declared.part.CoreOpening.{CoreOpening}
 use Rattle.share_core.specs.declared.part.Part.{Part}
 use Rattle.share_core.specs.declared.part.Placed.{Placed}
-use Rattle.share_core.specs.Learning.{MayAddUnit}
+use Rattle.share_core.specs.Learning.{ticket_after, MayAddUnit}
 use Rattle.share_core.specs.State.{times_at, opening_of}
 use Rattle.share_core.proofs.Leaving.{left_sound}
 use Rattle.share_core.proofs.Plainly.{recent_own}
@@ -45,6 +45,7 @@ use Rattle.log_book.specs.Books.{AreAlike}
 use Rattle.log_book.specs.Turns.{WasTaken, IsTurn, Grown, Refused as TurnRefused, MayNext, IsCause, IsAddCause, noted_as, sheet}
 use Rattle.ring_port.specs.declared.stops.PortStop.{PortStop}
 use Rattle.ring_port.specs.declared.stops.PortStop.TheVariants as port
+use Rattle.ring_port.specs.Port as ports
 use Rattle.ring_port.specs.Port.{HasReason, after_refusal, Refused, is_fault, is_usable}
 use Rattle.ring_port.specs.PortState.{PortState}
 use Rattle.ring_port.specs.Reducing.{NotedReduce}
@@ -357,7 +358,7 @@ may_reduce v J k h = subst (λ (cs : List (List Literal)). LEARNED_PER_REDUCTION
 -- a unit may be added if it is fresh to the ring's own entries
 pub may_add_unit : (v : View) (J : List Entry) (kind : Kind) (lit : Literal) → KnowsJournal v J → MayAddUnit v.opening (entries_of (only v)) (only v).core (only v).core.ring kind (lit ∷ []) → MayAddUnit v.opening J (only v).core (only v).core.ring kind (lit ∷ [])
 may_add_unit v J Ruler lit k h = h
-may_add_unit v J Learn lit k h = (λ i. not (list_any (includes (lit ∷ [])) (start_clauses (opening_of v.opening) ++ k.recent_is i))) ∙ h
+may_add_unit v J Learn lit k h = (λ i. (only v).core.ticket && not (list_any (includes (lit ∷ [])) (start_clauses (opening_of v.opening) ++ k.recent_is i))) ∙ h
 may_add_unit v J Derive lit k h = h
 may_add_unit v J UnitLine lit k h = h
 
@@ -380,6 +381,15 @@ err_map (Err e) f h k = f e h k
 pub mine_last : (ws : List Placed) (w : Placed) → map (λ (e : Placed). e.entry) (ws ++ w ∷ []) ≡ map (λ (e : Placed). e.entry) ws ++ w.entry ∷ []
 mine_last [] w = refl
 mine_last (y ∷ ws) w = ap (λ (es : List Entry). y.entry ∷ es) (mine_last ws w)
+
+-- Tickets
+
+-- the port tells a ticket as the ring's part does
+pub ticket_as : (kind : Kind) (t : Bool) → ticket_after kind t ≡ ports.ticket_after kind t
+ticket_as Ruler t = refl
+ticket_as Learn t = refl
+ticket_as Derive t = refl
+ticket_as UnitLine t = refl
 
 -- Reductions
 

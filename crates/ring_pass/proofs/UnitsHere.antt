@@ -44,7 +44,7 @@ use Rattle.ring_pass.specs.Writes.{entries_of, sheet_with, Wrote}
 use Rattle.ring_pass.proofs.PollsHere.{port_step}
 use Rattle.ring_pass.proofs.SeenHere.{less_counted, filter_passes, rest_distinct}
 use Rattle.ring_pass.proofs.Stays.{only_is, one_is}
-use Rattle.ring_pass.proofs.TurnsHere.{mine_last, port_going, ring_turns, room_turns, units_turns}
+use Rattle.ring_pass.proofs.TurnsHere.{mine_last, ticket_as, port_going, ring_turns, room_turns, units_turns}
 use Rattle.ring_pass.proofs.Units.{filter_In, In_filter, head_else}
 use Rattle.ring_pass.specs.Refusals.{answer_noted}
 
@@ -161,7 +161,7 @@ unit_put {v} {w} {u} {kind} {lit} {arrived'} {last} o home cell own h l out hm =
   sees = subst (λ (ls : List Literal). Sees (without_kept (kept o) seen) (without_kept (drop o.passed last) ls) lit) (sym now)
       (sees_written seen l.part.core.seen o.arrived l.news arrived' last o.passed lit (λ k. l.sees k ∙ ap (λ (ls : List Literal). has (ls ++ l.news) k || same lit k) before) (λ k e. ap (λ (ls : List Literal). has ls k) (sym before) ∙ l.apart k e) own.passed l.arrived_is out);
   looked = less_counted (2 ^ 64 - 1) (only v).caught_up (only u).caught_up more;
-  state = q ∙ (λ i. record (port_with v line o') { seen = without_kept (drop o.passed last) (sym now i); given = given i; caught_up = min (sym caught i) (2 ^ 64 - 1); mine = mine_last (only v).core.wrote (record { place = length h.journal; entry = unit_entry v h.journal kind lit }) i; home = hm i });
+  state = q ∙ (λ i. record (port_with v line o') { ticket = ticket_as kind (only v).core.ticket i; seen = without_kept (drop o.passed last) (sym now i); given = given i; caught_up = min (sym caught i) (2 ^ 64 - 1); mine = mine_last (only v).core.wrote (record { place = length h.journal; entry = unit_entry v h.journal kind lit }) i; home = hm i });
 }
   where
     seen : List Literal

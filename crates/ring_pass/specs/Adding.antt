@@ -5,6 +5,7 @@ use Rattle.rup_model.specs.declared.journal.Kind.{Kind}
 use Rattle.rup_model.specs.declared.journal.Entry.TheVariants.{Add}
 use Rattle.share_core.specs.declared.part.Placed.{Placed}
 use Rattle.share_core.specs.declared.stored.ClauseAt.{ClauseAt}
+use Rattle.share_core.specs.Learning.{ticket_after}
 use Rattle.share_core.specs.State.{times_at}
 use Rattle.share_rule.specs.declared.view.RingPart.{RingPart}
 use Rattle.share_rule.specs.declared.view.View.{View}
@@ -18,8 +19,8 @@ clause_with address number lits = record { address = address; number = number; l
 abbrev pub placed_line : (place ring number : ℕ) → List Literal → Kind → Placed
 placed_line place ring number lits kind = record { place = place; entry = Add (record { ring = ring; number = number; lits = lits; kind = kind }) }
 
--- the ring holds a clause that it added, at an address at which nothing stood that it knows, under a number of its own; no write
--- has failed
+-- the ring holds a clause that it added, at an address at which nothing stood that it knows, under a number of its own; if it was
+-- learned the ticket is used up; no write has failed
 pub record Added (v w : View) (kind : Kind) (lits : List Literal) (glue a : ℕ) : Type 0 where
   pub number : ℕ
   pub place : ℕ
@@ -33,6 +34,7 @@ pub record Added (v w : View) (kind : Kind) (lits : List Literal) (glue a : ℕ)
     held = (only v).core.held ++ clause_with a number lits ∷ [];
     making = part.core.making;
     wrote = (only v).core.wrote ++ placed_line place (only v).core.ring number lits kind ∷ [];
+    ticket = ticket_after kind (only v).core.ticket;
   }
   pub glues : part.glues ≡ record { number = number; glue = glue } ∷ (only v).glues
   pub gave : part.gave ≡ (only v).gave

@@ -104,6 +104,9 @@ port_with v p o = record {
   rings = v.opening.rings;
   depth = v.opening.depth;
   last = option_map (λ (c : Cref). c.address) o.last;
+  ticket = p.core.ticket;
+  found = p.core.found;
+  limit = v.opening.limit;
   stop = option_map stop_as v.stop;
   looks = min v.looks (2 ^ 64 - 1);
   refused = o.refused;
@@ -118,7 +121,7 @@ port_of v o = port_with v (only v) o
 
 -- the name of the table of a pass, with its layout
 abbrev pub home_of : {B : Type 0} → Seat (Option B) View → List ℕ
-home_of p = p.me.0.layout.rings ∷ p.me.0.layout.vars ∷ p.me.0.layout.words ∷ p.me.0.layout.depth ∷ p.table_id.words ∷ p.table_id.slots ∷ p.table_id.views_name ∷ p.table_id.atom ∷ p.table_id.block ∷ p.table_id.offset ∷ p.table_id.slot_names
+home_of p = p.me.0.layout.rings ∷ p.me.0.layout.vars ∷ p.me.0.layout.words ∷ p.me.0.layout.depth ∷ p.me.0.layout.conflicts ∷ p.table_id.words ∷ p.table_id.slots ∷ p.table_id.views_name ∷ p.table_id.atom ∷ p.table_id.block ∷ p.table_id.offset ∷ p.table_id.slot_names
 
 -- What is kept of it
 
@@ -228,6 +231,9 @@ begun_as v r home = record {
   rings = v.opening.rings;
   depth = v.opening.depth;
   last = None;
+  ticket = false;
+  found = 0;
+  limit = v.opening.limit;
   stop = option_map stop_as v.stop;
   looks = min v.looks (2 ^ 64 - 1);
   refused = None;

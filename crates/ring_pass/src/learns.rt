@@ -63,6 +63,7 @@ impl<'a, S: Sink, G: Gate, H: Wait> RingPass<'a, S, G, H> {
         requires usable { is_usable self.old.refused ≡ true }
         requires long { 2 ≤ length lits.now }
         requires clause { IsClause self.old.vars lits.now }
+        requires ticket { self.old.ticket ≡ true }
         requires rup { rup (known self.old) lits.now ≡ true }
         requires fresh { IsFreshClause self.old lits.now }
         ensures learned { ClausePut self.old self.new lits.now glue Learn result }
@@ -102,6 +103,7 @@ impl<'a, S: Sink, G: Gate, H: Wait> RingPass<'a, S, G, H> {
     fn learn_unit(&mut self, lit: Lit) -> Result<(), PortStop>
         requires usable { is_usable self.old.refused ≡ true }
         requires on { IsOn self.old.vars lit }
+        requires ticket { self.old.ticket ≡ true }
         requires rup { rup (known self.old) (lit ∷ []) ≡ true }
         requires fresh { IsFreshClause self.old (lit ∷ []) }
         ensures learned { UnitPut self.old self.new lit Learn None result }
@@ -141,11 +143,12 @@ impl<'a, S: Sink, G: Gate, H: Wait> RingPass<'a, S, G, H> {
     }
 
     /// Learns a clause that was found at a conflict: its line is written, and it is held from then on with its literals in this
-    /// order. Of one literal it is a unit, which has no address and is seen.
+    /// order. Of one literal it is a unit, which has no address and is seen. A refusal leaves the ticket in hand.
     pub fn learn(&mut self, lits: &[Lit], glue: u32) -> Result<Option<Cref>, PortStop>
         requires usable { is_usable self.old.refused ≡ true }
         requires some { 1 ≤ length lits.now }
         requires clause { IsClause self.old.vars lits.now }
+        requires ticket { self.old.ticket ≡ true }
         requires rup { rup (known self.old) lits.now ≡ true }
         requires fresh { IsFreshClause self.old lits.now }
         ensures learned { Learned self.old self.new lits.now glue result }

@@ -14,6 +14,7 @@ mod cells;
 mod clauses;
 mod deletions;
 mod derives;
+mod draws;
 mod drops;
 mod endings;
 mod exchange;

@@ -1,7 +1,7 @@
 // All calls together: a ring with its pass is a port.
 use crate::pass::RingPass;
 use io_edge::Sink;
-use ring_port::{Gate, Port, PortStop, Set, Shape};
+use ring_port::{Drawn, Gate, Port, PortStop, Set, Shape};
 use sat_words::{Cref, Head, Lit, Stop, Values};
 use std::sync::Wait;
 
@@ -30,6 +30,10 @@ impl<'a, S: Sink, G: Gate, H: Wait> Port for RingPass<'a, S, G, H> {
 
     fn find_open(&mut self, c: Cref, values: &Values, other: Lit) -> Option<Lit> {
         self.find_open(c, values, other)
+    }
+
+    fn draw(&mut self) -> Drawn {
+        self.draw()
     }
 
     fn learn(&mut self, lits: &[Lit], glue: u32) -> Result<Option<Cref>, PortStop> {

@@ -1,8 +1,7 @@
 -- How a port in memory begins.
-use Rattle.std.proofs.Common.{◌≡◌, ◌≢◌, inl, inr, ℕ, zero, suc, ◌+◌, ◌-◌, ◌<◌, ◌≤◌, ◌||◌, false, not, List, [], ◌∷◌, ◌++◌, length, map, get_or, sym, refl, ap, subst, ◌∙◌, arith, Some, None, append_assoc, append-nil, cond, ◌==◌, eq-eqb, ne_eqb}
+use Rattle.std.proofs.Common.{◌≡◌, ◌≢◌, inl, inr, ℕ, zero, suc, ◌+◌, ◌-◌, ◌^◌, ◌<◌, ◌≤◌, ◌||◌, false, not, List, [], ◌∷◌, ◌++◌, length, map, get_or, sym, refl, ap, subst, ◌∙◌, arith, Some, None, append_assoc, append-nil, cond, ◌==◌, eq-eqb, ne_eqb}
 use Rattle.std.specs.List.{list_any, All, AllByRecursion, IsDistinct, find, range_with_len}
 use Rattle.std.specs.Prelude.{nat_eq}
-use Rattle.std.specs.declared.option.Option.{Option}
 use Rattle.std.proofs.lemmas.Bool.{or_parts, false≢true, eqb-false}
 use Rattle.std.proofs.lemmas.List.Folds.{list_any-append}
 use Rattle.sat_words.specs.Literal.{Literal}
@@ -14,6 +13,7 @@ use Rattle.rup_model.specs.Journal.{book, lines, added, LogSound}
 use Rattle.rup_model.specs.Opening.{Start, IsOpening, IsStart}
 use Rattle.rup_model.proofs.Additions.{added-append}
 use Rattle.drat_text.specs.LineState.{LineState}
+use Rattle.ring_port.specs.declared.draw.Tickets.{Tickets}
 use Rattle.drat_text.proofs.JournalLines.{has_text_begun}
 use Rattle.ring_port.specs.PortState.{Holding, AreApart, IsKept, IsOn, HoldsStart, held_at}
 use Rattle.rup_model.proofs.Lists.{In, Contains_In}
@@ -85,16 +85,16 @@ empty_last_from before (e ∷ rest) none = (
 )
 
 -- what a port has when it is made
-abbrev pub begun_data : ℕ → List (ℕ × List Literal) → List Literal → ℕ → LogData → PlainData
-begun_data vars ss units room g = record { vars = vars; start = placed_from 0 ss; held = placed_from 0 ss; waiting = []; opening = units; passed = 0; given = []; given_room = room; written = []; log = g; last = None; stop = None; looks = 0; caught_up = 0 }
+abbrev pub begun_data : ℕ → List (ℕ × List Literal) → List Literal → ℕ → LogData → ℕ → PlainData
+begun_data vars ss units room g limit = record { vars = vars; start = placed_from 0 ss; held = placed_from 0 ss; waiting = []; opening = units; passed = 0; given = []; given_room = room; written = []; log = g; last = None; tickets = record { in_hand = false; found = 0; limit = limit }; stop = None; looks = 0; caught_up = 0 }
 
-module _ (F : List (List Literal)) (vars : ℕ) (ss : List (ℕ × List Literal)) (units : List Literal) (out : LineState) where
+module _ (F : List (List Literal)) (vars : ℕ) (ss : List (ℕ × List Literal)) (units : List Literal) (out : LineState) (limit : ℕ) where
   kept_start : (J : List Entry) → OpensOver F (starts_of ss) units out J → All (λ s. All (IsOn vars) s.1) ss → All (IsKept vars) (placed_from 0 ss)
   kept_start J h on = placed_All (IsStart (book F J)) (λ s. All (IsOn vars) s.1) (IsKept vars) 0 ss (λ b s is ons. record { shape = is.shape; on = ons }) h.opens.starts on
 
   pub begun_plain : (room : ℕ) (g : LogData) (J : List Entry) → OpensOver F (starts_of ss) units out J → All (λ s. All (IsOn vars) s.1) ss → All (IsOn vars) units
-      → length units ≤ room → IsPlain (begun_data vars ss units room g)
-  begun_plain room g J h on units_on enough = record {
+      → length units ≤ room → limit < 2 ^ 64 → IsPlain (begun_data vars ss units room g limit)
+  begun_plain room g J h on units_on enough fits = record {
     held = kept_start J h on;
     waiting = λ k d lt. absurd (omega arith);
     start = kept_start J h on;
@@ -108,27 +108,28 @@ module _ (F : List (List Literal)) (vars : ℕ) (ss : List (ℕ × List Literal)
     given_room = omega arith;
     written = λ k d lt. absurd (omega arith);
     stop = tt;
+    few = fits;
   }
 
   pub begun_state : (room : ℕ) (g : LogData) → g.output ≡ out → g.mine ≡ [] → g.ended ≡ false → g.refused ≡ None
-      → state_of (begun_data vars ss units room g) ≡ begun_with vars ss units out
+      → state_of (begun_data vars ss units room g limit) ≡ begun_with vars ss units out limit
   begun_state room g output mine going quiet =
       let all : length units - 0 ≡ length units = omega arith in
-      λ i. record (begun_with vars ss units out) { coming = all i; output = Some (output i); mine = mine i; ended = going i; refused = quiet i }
+      λ i. record (begun_with vars ss units out limit) { coming = all i; output = Some (output i); mine = mine i; ended = going i; refused = quiet i }
 
   -- the state of a port that has this
-  pub begun_is : (S H Q : List Holding) (V W : List Literal) (room : ℕ) (g : LogData) → S ≡ placed_from 0 ss → H ≡ placed_from 0 ss → Q ≡ [] → V ≡ [] → W ≡ []
+  pub begun_is : (S H Q : List Holding) (V W : List Literal) (room : ℕ) (g : LogData) (tickets : Tickets) → S ≡ placed_from 0 ss → H ≡ placed_from 0 ss → Q ≡ [] → V ≡ [] → W ≡ [] → tickets ≡ record { in_hand = false; found = 0; limit = limit }
       → g.output ≡ out → g.mine ≡ [] → g.ended ≡ false → g.refused ≡ None
-      → state_of (record { vars = vars; start = S; held = H; waiting = Q; opening = units; passed = 0; given = V; given_room = room; written = W; log = g; last = None; stop = None; looks = 0; caught_up = 0 }) ≡ begun_with vars ss units out
-  begun_is S H Q V W room g start held none given written output mine going quiet =
-      (λ i. state_of (record { vars = vars; start = start i; held = held i; waiting = none i; opening = units; passed = 0; given = given i; given_room = room; written = written i; log = g; last = None; stop = None; looks = 0; caught_up = 0 }))
+      → state_of (record { vars = vars; start = S; held = H; waiting = Q; opening = units; passed = 0; given = V; given_room = room; written = W; log = g; last = None; tickets = tickets; stop = None; looks = 0; caught_up = 0 }) ≡ begun_with vars ss units out limit
+  begun_is S H Q V W room g tickets start held none given written undrawn output mine going quiet =
+      (λ i. state_of (record { vars = vars; start = start i; held = held i; waiting = none i; opening = units; passed = 0; given = given i; given_room = room; written = written i; log = g; last = None; tickets = undrawn i; stop = None; looks = 0; caught_up = 0 }))
       ∙ begun_state room g output mine going quiet
 
   pub begun_stands : (J : List Entry) → OpensOver F (starts_of ss) units out J → list_any is_empty F ≡ false → out.spent ≡ false
-      → StandsOver (record { formula = F; journal = J; output = out }) (begun_with vars ss units out)
+      → StandsOver (record { formula = F; journal = J; output = out }) (begun_with vars ss units out limit)
   begun_stands J h none unspent =
       let o : Origin = record { formula = F; journal = J; output = out } in
-      let s = begun_with vars ss units out in
+      let s = begun_with vars ss units out limit in
       let alone : J ++ [] ≡ J = append-nil J in
       let log : LogSound F J = record { fits = h.opens.rulers_part.fits; accepted = h.opens.rulers_part.accepted; empty_last = empty_last_from [] J h.opens.rulers_part.going } in
       record {
@@ -155,7 +156,7 @@ module _ (F : List (List Literal)) (vars : ℕ) (ss : List (ℕ × List Literal)
         };
       }
     where
-      among : (x : Holding) → Keeps (begun_with vars ss units out) x → In x (placed_from 0 ss)
+      among : (x : Holding) → Keeps (begun_with vars ss units out limit) x → In x (placed_from 0 ss)
       among x (inl m) = Contains_In (placed_from 0 ss) x m
       among x (inr m) = absurd (let lt = m.1 in omega arith)
 
@@ -168,9 +169,9 @@ found_apart (h ∷ hs) apart (suc k) d lt =
     ∙ found_apart hs apart.1 k d (omega arith)
 
 -- each start clause is held at its address
-pub begun_holds : (vars : ℕ) (ss : List (ℕ × List Literal)) (units : List Literal) (out : LineState) → HoldsStart (begun_with vars ss units out)
+pub begun_holds : (vars : ℕ) (ss : List (ℕ × List Literal)) (units : List Literal) (out : LineState) (limit : ℕ) → HoldsStart (begun_with vars ss units out limit)
 unfolding held_at
-begun_holds vars ss units out k d lt = found_apart (placed_from 0 ss) (apart_from 0 ss) k d lt
+begun_holds vars ss units out limit k d lt = found_apart (placed_from 0 ss) (apart_from 0 ss) k d lt
 
 -- one start clause more
 pub kept_one : (ss : List (ℕ × List Literal)) (s : ℕ × List Literal) (hs new : List Holding) (end : ℕ) → hs ≡ placed_from 0 ss → end ≡ words_of ss

@@ -1,5 +1,5 @@
 -- What is kept of a port in memory, and what its calls find.
-use Rattle.std.proofs.Common.{◌≡◌, ◌≢◌, ℕ, suc, ◌+◌, ◌≤◌, ◌==◌, true, List, [], ◌∷◌, ◌++◌, length, take, drop, get_or, sym, refl, ap, subst, ◌∙◌, inl, inr, arith, Some, None, IsSome, IfSome, cond, eq-eqb, ne_eqb, false}
+use Rattle.std.proofs.Common.{◌≡◌, ◌≢◌, ℕ, suc, ◌+◌, ◌<◌, ◌≤◌, ◌^◌, ◌==◌, true, List, [], ◌∷◌, ◌++◌, length, take, drop, get_or, sym, refl, ap, subst, ◌∙◌, inl, inr, arith, Some, None, IsSome, IfSome, cond, eq-eqb, ne_eqb, false}
 use Rattle.std.specs.List.{All, slice_get, find, list_any}
 use Rattle.std.specs.Prelude.{is_some}
 use Rattle.std.specs.Option.{option_or, unwrap_or}
@@ -15,6 +15,7 @@ use Rattle.sat_words.specs.declared.shared.Stop.{Stop}
 use Rattle.sat_words.specs.declared.shared.TheConstants.{STOP_SAT, STOP_MEMORY}
 use Rattle.rup_model.specs.declared.journal.Kind.{Kind}
 use Rattle.drat_text.specs.LineState.{LineState}
+use Rattle.ring_port.specs.declared.draw.Tickets.{Tickets}
 use Rattle.ring_port.specs.declared.stops.PortStop.{PortStop}
 use Rattle.ring_port.specs.declared.stops.PortStop.TheVariants.{Ended, Broken, ProofFault, NoHole, Memory}
 use Rattle.rup_model.proofs.Lists.{In, Contains_In}
@@ -60,6 +61,7 @@ plain_port p h = record {
   stop = own_stop p.stop h.stop;
   ring = omega arith;
   deep = omega arith;
+  few = h.few;
 }
 
 -- what is looked up
@@ -90,28 +92,32 @@ waits_nowhere (x ∷ hs) a all = rw (ne_eqb x.address a (all 0 x (omega arith)))
 
 -- the log is no part of what is kept
 pub plain_log : (p : PlainData) → IsPlain p → (g : LogData) (last : Option Cref) → IsPlain (record p { log = g; last = last })
-plain_log p h g last = record { held = h.held; waiting = h.waiting; start = h.start; apart = h.apart; dropped = h.dropped; once = h.once; opening = h.opening; distinct = h.distinct; passed = h.passed; given = h.given; given_room = h.given_room; written = h.written; stop = h.stop }
+plain_log p h g last = record { held = h.held; waiting = h.waiting; start = h.start; apart = h.apart; dropped = h.dropped; once = h.once; opening = h.opening; distinct = h.distinct; passed = h.passed; given = h.given; given_room = h.given_room; written = h.written; stop = h.stop; few = h.few }
 
 -- nor is how often no stop was found
 pub plain_looked : (p : PlainData) → IsPlain p → (k : ℕ) → IsPlain (record p { looks = k })
-plain_looked p h k = record { held = h.held; waiting = h.waiting; start = h.start; apart = h.apart; dropped = h.dropped; once = h.once; opening = h.opening; distinct = h.distinct; passed = h.passed; given = h.given; given_room = h.given_room; written = h.written; stop = h.stop }
+plain_looked p h k = record { held = h.held; waiting = h.waiting; start = h.start; apart = h.apart; dropped = h.dropped; once = h.once; opening = h.opening; distinct = h.distinct; passed = h.passed; given = h.given; given_room = h.given_room; written = h.written; stop = h.stop; few = h.few }
 
 -- nor is how often no unit was left
 pub plain_caught : (p : PlainData) → IsPlain p → (k : ℕ) → IsPlain (record p { caught_up = k })
-plain_caught p h k = record { held = h.held; waiting = h.waiting; start = h.start; apart = h.apart; dropped = h.dropped; once = h.once; opening = h.opening; distinct = h.distinct; passed = h.passed; given = h.given; given_room = h.given_room; written = h.written; stop = h.stop }
+plain_caught p h k = record { held = h.held; waiting = h.waiting; start = h.start; apart = h.apart; dropped = h.dropped; once = h.once; opening = h.opening; distinct = h.distinct; passed = h.passed; given = h.given; given_room = h.given_room; written = h.written; stop = h.stop; few = h.few }
+
+-- nor are the tickets, but for their number
+pub plain_tickets : (p : PlainData) → IsPlain p → (ti : Tickets) → ti.limit ≡ p.tickets.limit → IsPlain (record p { tickets = ti })
+plain_tickets p h ti same = record { held = h.held; waiting = h.waiting; start = h.start; apart = h.apart; dropped = h.dropped; once = h.once; opening = h.opening; distinct = h.distinct; passed = h.passed; given = h.given; given_room = h.given_room; written = h.written; stop = h.stop; few = subst (λ (n : ℕ). n < 2 ^ 64) (sym same) h.few }
 
 -- a stop of its own is set
 pub plain_stopped : (p : PlainData) → IsPlain p → (kind : ℕ) → STOP_SAT ≤ kind → kind ≤ STOP_MEMORY → IsPlain (record p { stop = Some (record { kind = kind; ring = 0 }) })
-plain_stopped p h kind low high = record { held = h.held; waiting = h.waiting; start = h.start; apart = h.apart; dropped = h.dropped; once = h.once; opening = h.opening; distinct = h.distinct; passed = h.passed; given = h.given; given_room = h.given_room; written = h.written; stop = record { low = low; high = high; own = refl } }
+plain_stopped p h kind low high = record { held = h.held; waiting = h.waiting; start = h.start; apart = h.apart; dropped = h.dropped; once = h.once; opening = h.opening; distinct = h.distinct; passed = h.passed; given = h.given; given_room = h.given_room; written = h.written; stop = record { low = low; high = high; own = refl }; few = h.few }
 
 -- more units are given
 pub plain_given : (p : PlainData) → IsPlain p → (n : ℕ) (ls : List Literal) (r : ℕ) → n ≤ length p.opening → All (λ l. has (take n p.opening) l ≡ true) ls → length p.opening ≤ n + r
     → IsPlain (record p { passed = n; given = ls; given_room = r })
-plain_given p h n ls r le all room = record { held = h.held; waiting = h.waiting; start = h.start; apart = h.apart; dropped = h.dropped; once = h.once; opening = h.opening; distinct = h.distinct; passed = le; given = all; given_room = room; written = h.written; stop = h.stop }
+plain_given p h n ls r le all room = record { held = h.held; waiting = h.waiting; start = h.start; apart = h.apart; dropped = h.dropped; once = h.once; opening = h.opening; distinct = h.distinct; passed = le; given = all; given_room = room; written = h.written; stop = h.stop; few = h.few }
 
 -- a unit more
-pub plain_unit : (p : PlainData) → IsPlain p → (l : Literal) → IsOn p.vars l → (g : LogData) (last : Option Cref) → IsPlain (record p { written = p.written ++ l ∷ []; log = g; last = last })
-plain_unit p h l on g last = record {
+pub plain_unit : (p : PlainData) → IsPlain p → (l : Literal) → IsOn p.vars l → (g : LogData) (last : Option Cref) (ti : Tickets) → ti.limit ≡ p.tickets.limit → IsPlain (record p { written = p.written ++ l ∷ []; log = g; last = last; tickets = ti })
+plain_unit p h l on g last ti same = record {
   held = h.held;
   waiting = h.waiting;
   start = h.start;
@@ -125,14 +131,15 @@ plain_unit p h l on g last = record {
   given_room = h.given_room;
   written = All-append (IsOn p.vars) p.written (l ∷ []) h.written (one_All (IsOn p.vars) l on);
   stop = h.stop;
+  few = subst (λ (n : ℕ). n < 2 ^ 64) (sym same) h.few;
 }
 
 -- the port with one clause more
-abbrev pub pushed_data : PlainData → Holding → LogData → Option Cref → PlainData
-pushed_data p x g last = record p { held = p.held ++ x ∷ []; log = g; last = last }
+abbrev pub pushed_data : PlainData → Holding → LogData → Option Cref → Tickets → PlainData
+pushed_data p x g last ti = record p { held = p.held ++ x ∷ []; log = g; last = last; tickets = ti }
 
-pub plain_pushed : (p : PlainData) → IsPlain p → (x : Holding) → IsKept p.vars x → All (λ h. h.address ≢ x.address) p.held → All (λ h. h.address ≢ x.address) p.waiting → (g : LogData) (last : Option Cref) → IsPlain (pushed_data p x g last)
-plain_pushed p h x kept not_held not_waiting g last = record {
+pub plain_pushed : (p : PlainData) → IsPlain p → (x : Holding) → IsKept p.vars x → All (λ h. h.address ≢ x.address) p.held → All (λ h. h.address ≢ x.address) p.waiting → (g : LogData) (last : Option Cref) (ti : Tickets) → ti.limit ≡ p.tickets.limit → IsPlain (pushed_data p x g last ti)
+plain_pushed p h x kept not_held not_waiting g last ti same = record {
   held = All-append (IsKept p.vars) p.held (x ∷ []) h.held (one_All (IsKept p.vars) x kept);
   waiting = h.waiting;
   start = h.start;
@@ -149,6 +156,7 @@ plain_pushed p h x kept not_held not_waiting g last = record {
   given_room = h.given_room;
   written = h.written;
   stop = h.stop;
+  few = subst (λ (n : ℕ). n < 2 ^ 64) (sym same) h.few;
 }
 
 -- a clause less, which waits
@@ -172,6 +180,7 @@ plain_dropped p h a x held last = record {
   given_room = h.given_room;
   written = h.written;
   stop = h.stop;
+  few = h.few;
 }
   where
     at : x.address ≡ a
@@ -211,6 +220,7 @@ plain_deleted p h x xs g first =
       given_room = h.given_room;
       written = h.written;
       stop = h.stop;
+      few = h.few;
     }
 
 -- what is held stays held when a clause is pushed

@@ -17,10 +17,11 @@ use Rattle.rup_model.specs.declared.journal.Kind.TheVariants.{Learn}
 use Rattle.rup_model.specs.Rup.{rup}
 use Rattle.rup_model.specs.Journal.{book, is_told}
 use Rattle.rup_model.proofs.Additions.{told_more}
+use Rattle.ring_port.specs.declared.draw.Tickets.{Tickets}
 use Rattle.ring_port.specs.declared.stops.PortStop.{PortStop}
 use Rattle.ring_port.specs.declared.stops.PortStop.TheVariants.{Ended, Broken, ProofFault, NoHole, Memory}
 use Rattle.ring_port.specs.PortState.{Holding, PortState, AreApart, IsKept, IsOn, held_at, known}
-use Rattle.ring_port.specs.Port.{is_usable, holding_of, last_after, AddedClause}
+use Rattle.ring_port.specs.Port.{is_usable, holding_of, last_after, ticket_after, AddedClause}
 use Rattle.ring_port.specs.Log.{Origin, Keeps, StandsOver, KeepsLog, journal_of}
 use Rattle.ring_port.specs.OwnLog.{LogData, AddedEntry, DeletedEntry, NotPut, WasReduced, own_entry}
 use Rattle.ring_port.specs.PlainPort.{PlainData, state_of, IsPlain}
@@ -40,39 +41,68 @@ some_literal (l ∷ lits) long = refl
 unspent_of : (o : Origin) (p : PlainData) → StandsOver o (state_of p) → is_usable p.log.refused ≡ true → p.log.output.spent ≡ false
 unspent_of o p h usable = not-true p.log.output.spent (sym (output_of o (state_of p) p.log.output h refl).usable ∙ usable)
 
+-- the tickets
+pub tickets_keep : (p : PlainData) (ti : Tickets) → KeepsLog (state_of p) (state_of (record p { tickets = ti }))
+tickets_keep p ti o h =
+    let was = output_of o (state_of p) p.log.output h refl in
+    record {
+      opens = h.opens;
+      given = h.given;
+      sound = h.sound;
+      of_ring = h.of_ring;
+      on = h.on;
+      ended = h.ended;
+      held = h.held;
+      waiting = h.waiting;
+      numbers = h.numbers;
+      seen = h.seen;
+      output = record {
+        entries = was.entries;
+        last = was.last;
+        usable = was.usable;
+        caused = caused_same (state_of p) (state_of (record p { tickets = ti })) p.log.output p.log.refused refl was.caused;
+        whole = was.whole;
+        short = was.short;
+        target = was.target;
+        flushed = was.flushed;
+      };
+    }
+
 -- the line of a unit
-pub unit_keeps : (p : PlainData) (r : ℕ) (g : LogData) (l : Literal) (kind : Kind) (number : ℕ) (last : Option Cref)
+pub unit_keeps : (p : PlainData) (r : ℕ) (g : LogData) (l : Literal) (kind : Kind) (number : ℕ) (last : Option Cref) (ti : Tickets)
     → is_usable p.log.refused ≡ true → IsOn p.vars l → rup (known (state_of p)) (l ∷ []) ≡ true → AddedEntry (record p.log { room = r }) g (l ∷ []) kind number
-    → KeepsLog (state_of p) (state_of (record p { written = p.written ++ l ∷ []; log = g; last = last }))
-unit_keeps p r g l kind number last usable on follows added o h =
+    → KeepsLog (state_of p) (state_of (record p { written = p.written ++ l ∷ []; log = g; last = last; tickets = ti }))
+unit_keeps p r g l kind number last ti usable on follows added o h =
     let s = state_of p in
     let next = number_is o s h refl (l ∷ []) kind number follows added.going (one_All (IsOn p.vars) l on) p.log.output g.output refl (unspent_of o p h usable) added.put in
     let seen = subst (λ (ls : List Literal). All (λ k. is_told o.formula (o.journal ++ (p.log.mine ++ own_entry number (l ∷ []) kind ∷ [])) k ≡ true) ls) (append_assoc (take p.passed p.opening) p.written (l ∷ []))
     (All-append (λ k. is_told o.formula (o.journal ++ (p.log.mine ++ own_entry number (l ∷ []) kind ∷ [])) k ≡ true) (take p.passed p.opening ++ p.written) (l ∷ [])
     (all_told_next o s h refl (l ∷ []) kind number (take p.passed p.opening ++ p.written) h.seen)
     (one_All (λ k. is_told o.formula (o.journal ++ (p.log.mine ++ own_entry number (l ∷ []) kind ∷ [])) k ≡ true) l (told_here o s h refl (l ∷ []) kind number l refl))) in
-    subst (λ k. StandsOver o (state_of (record p { written = p.written ++ l ∷ []; log = k; last = last }))) (sym added.state)
+    tickets_keep (record p { written = p.written ++ l ∷ []; log = g; last = last }) ti o
+    (subst (λ k. StandsOver o (state_of (record p { written = p.written ++ l ∷ []; log = k; last = last }))) (sym added.state)
     (stands_after o s h refl (l ∷ []) kind number follows added.going (one_All (IsOn p.vars) l on) p.log.output g.output refl (unspent_of o p h usable) added.put
     p.held (take p.passed p.opening ++ (p.written ++ l ∷ [])) (option_map (λ c. c.address) last) p.log.ended
-    (held_next o s h refl (l ∷ []) kind number) seen (h.ended ∙ sym (ended_stays o s h refl (l ∷ []) kind number refl)) h.numbers)
+    (held_next o s h refl (l ∷ []) kind number) seen (h.ended ∙ sym (ended_stays o s h refl (l ∷ []) kind number refl)) h.numbers))
 
 -- the line of a longer clause
-pub clause_keeps : (p : PlainData) (r : ℕ) (g : LogData) (lits : List Literal) (kind : Kind) (number glue address : ℕ) (last : Option Cref) → IsPlain p
+pub clause_keeps : (p : PlainData) (r : ℕ) (g : LogData) (lits : List Literal) (kind : Kind) (number glue address : ℕ) (last : Option Cref) (ti : Tickets) → IsPlain p
     → is_usable p.log.refused ≡ true → 2 ≤ length lits → All (IsOn p.vars) lits → rup (known (state_of p)) lits ≡ true → AddedEntry (record p.log { room = r }) g lits kind number
-    → KeepsLog (state_of p) (state_of (pushed_data p (record { address = address; number = number; glue = glue; lits = lits }) g last))
-clause_keeps p r g lits kind number glue address last plain usable long on follows added o h =
+    → KeepsLog (state_of p) (state_of (pushed_data p (record { address = address; number = number; glue = glue; lits = lits }) g last ti))
+clause_keeps p r g lits kind number glue address last ti plain usable long on follows added o h =
     let s = state_of p in
     let x : Holding = record { address = address; number = number; glue = glue; lits = lits } in
     let next = number_is o s h refl lits kind number follows added.going on p.log.output g.output refl (unspent_of o p h usable) added.put in
     let held = All-append (λ c. (book o.formula (o.journal ++ (p.log.mine ++ own_entry number lits kind ∷ []))).clause c.number ≡ Some c.lits) p.held (x ∷ []) (held_next o s h refl lits kind number)
     (one_All (λ c. (book o.formula (o.journal ++ (p.log.mine ++ own_entry number lits kind ∷ []))).clause c.number ≡ Some c.lits) x (added_here o s h refl lits kind number next)) in
     let pushed : LogData → PortState = λ k. state_of (record p { held = p.held ++ x ∷ []; log = k; last = last }) in
-    subst (λ k. StandsOver o (pushed k)) (sym added.state)
+    tickets_keep (record p { held = p.held ++ x ∷ []; log = g; last = last }) ti o
+    (subst (λ k. StandsOver o (pushed k)) (sym added.state)
     (stands_after o s h refl lits kind number follows added.going on p.log.output g.output refl (unspent_of o p h usable) added.put
     (p.held ++ x ∷ []) (take p.passed p.opening ++ p.written) (option_map (λ c. c.address) last) p.log.ended
     held (all_told_next o s h refl lits kind number (take p.passed p.opening ++ p.written) h.seen)
     (h.ended ∙ sym (ended_stays o s h refl lits kind number (some_literal lits long)))
-    (numbers_next o s h refl lits kind number x next (pushed (record p.log { output = g.output; mine = p.log.mine ++ own_entry number lits kind ∷ []; room = g.room })) refl refl))
+    (numbers_next o s h refl lits kind number x next (pushed (record p.log { output = g.output; mine = p.log.mine ++ own_entry number lits kind ∷ []; room = g.room })) refl refl)))
 
 -- the empty clause
 pub empty_keeps : (p : PlainData) (r : ℕ) (g : LogData) (kind : Kind) (number : ℕ)
@@ -199,11 +229,11 @@ offer_did p (Some class) a some = record {
 }
 
 -- what a longer clause did to the port
-pub clause_put : (p : PlainData) → (r : ℕ) (g : LogData) (lits : List Literal) (kind : Kind) (number glue : ℕ) (c : Cref) (last : Option Cref)
+pub clause_put : (p : PlainData) → (r : ℕ) (g : LogData) (lits : List Literal) (kind : Kind) (number glue : ℕ) (c : Cref) (last : Option Cref) (ti : Tickets)
     → All (λ h. h.address ≢ c.address) p.held → All (λ h. h.address ≢ c.address) p.waiting
-    → 2 ≤ length lits → option_map (λ x. x.address) last ≡ last_after kind (option_map (λ x. x.address) p.last) c.address → AddedEntry (record p.log { room = r }) g lits kind number
-    → AddedClause (state_of p) (state_of (pushed_data p (holding_of c number glue lits) g last)) lits glue kind c
-clause_put p r g lits kind number glue c last not_held not_waiting long is added =
+    → 2 ≤ length lits → option_map (λ x. x.address) last ≡ last_after kind (option_map (λ x. x.address) p.last) c.address → ti ≡ record p.tickets { in_hand = ticket_after kind p.tickets.in_hand } → AddedEntry (record p.log { room = r }) g lits kind number
+    → AddedClause (state_of p) (state_of (pushed_data p (holding_of c number glue lits) g last ti)) lits glue kind c
+clause_put p r g lits kind number glue c last ti not_held not_waiting long is used added =
     let x : Holding = holding_of c number glue lits in
     let grown : LogData = record p.log { room = g.room; output = g.output; mine = p.log.mine ++ own_entry number lits kind ∷ [] } in
     let none : held_at (state_of p) c.address ≡ None = free_of (state_of p) c.address not_held in
@@ -212,9 +242,10 @@ clause_put p r g lits kind number glue c last not_held not_waiting long is added
       going = added.going;
       long = long;
       free = record { not_held = none; not_waiting = waits_nowhere p.waiting c.address not_waiting };
-      there = found_pushed (state_of p) (state_of (pushed_data p x g last)) x refl none;
-      state = ap (λ k. state_of (pushed_data p x k last)) added.state
-          ∙ (λ i. record (state_of (pushed_data p x grown last)) { last = is i });
+      there = found_pushed (state_of p) (state_of (pushed_data p x g last ti)) x refl none;
+      state = ap (λ k. state_of (pushed_data p x k last ti)) added.state
+          ∙ ap (λ u. state_of (pushed_data p x grown last u)) used
+          ∙ (λ i. record (state_of (pushed_data p x grown last (record p.tickets { in_hand = ticket_after kind p.tickets.in_hand }))) { last = is i });
     }
 
 -- a clause is dropped, and waits

@@ -1,5 +1,6 @@
 pub mod PortState
 pub mod Port
+pub mod Drawing
 pub mod Deleting
 pub mod Reducing
 pub mod Exchange

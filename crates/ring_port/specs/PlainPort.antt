@@ -1,5 +1,5 @@
 -- What a port in memory has, and what is kept of it.
-use Rattle.std.specs.Prelude.{◌≡◌, ℕ, ◌+◌, ◌-◌, ◌<◌, ◌≤◌, ◌==◌, true, false, List, [], ◌∷◌, ◌++◌, map, length, take, find, All, Option, Some, None, IfSome, Result, Ok, Err, ⊤}
+use Rattle.std.specs.Prelude.{◌≡◌, ℕ, ◌+◌, ◌-◌, ◌^◌, ◌<◌, ◌≤◌, ◌==◌, true, false, List, [], ◌∷◌, ◌++◌, map, length, take, find, All, Option, Some, None, IfSome, Result, Ok, Err, ⊤}
 use Rattle.std.specs.Option.{option_map}
 use Rattle.sat_words.specs.Literal.{Literal}
 use Rattle.sat_words.specs.Clause.{has, distinct_lits}
@@ -12,6 +12,7 @@ use Rattle.rup_model.specs.Opening.{Start, IsOpening}
 use Rattle.io_edge.specs.Causes.{Rose}
 use Rattle.sat_words.specs.declared.shared.TheConstants.{MAX_ENTRIES}
 use Rattle.drat_text.specs.LineState.{LineState}
+use Rattle.ring_port.specs.declared.draw.Tickets.{Tickets}
 use Rattle.ring_port.specs.declared.stops.PortStop.{PortStop}
 use Rattle.ring_port.specs.declared.stops.PortStop.TheVariants.{Ended, Broken, ProofFault, NoHole, Memory}
 use Rattle.ring_port.specs.PortState.{Holding, PortState, AreApart, IsKept, IsOn}
@@ -21,7 +22,7 @@ use Rattle.ring_port.specs.Store.{StoreData}
 
 -- the start clauses; those that are held; those that wait, in order; the units of the opening, and how many of
 -- them were given, or written before it came to them; the units given, and for how many more there is room; the units
--- written; the log; the clause learned last; the stop, and how often none was found; how often no unit was left
+-- written; the log; the clause learned last; the tickets; the stop, and how often none was found; how often no unit was left
 pub record PlainData : Type 0 where
   pub vars : ℕ
   pub start : List Holding
@@ -34,6 +35,7 @@ pub record PlainData : Type 0 where
   pub written : List Literal
   pub log : LogData
   pub last : Option Cref
+  pub tickets : Tickets
   pub stop : Option Stop
   pub looks : ℕ
   pub caught_up : ℕ
@@ -62,6 +64,9 @@ state_of p = record {
   rings = 1;
   depth = 1;
   last = option_map (λ c. c.address) p.last;
+  ticket = p.tickets.in_hand;
+  found = p.tickets.found;
+  limit = p.tickets.limit;
   stop = p.stop;
   looks = p.looks;
   refused = p.log.refused;
@@ -76,7 +81,7 @@ pub record IsOwnStop (x : Stop) : Type 0 where
   pub high : x.kind ≤ STOP_MEMORY
   pub own : x.ring ≡ 0
 
--- what is kept of the port: no address has two of the clauses that are held and that wait
+-- what is kept of the port: no address has two of the clauses that are held and that wait; the number of tickets fits into 64 bits
 pub record IsPlain (p : PlainData) : Type 0 where
   pub held : All (IsKept p.vars) p.held
   pub waiting : All (IsKept p.vars) p.waiting
@@ -91,6 +96,7 @@ pub record IsPlain (p : PlainData) : Type 0 where
   pub given_room : length p.opening ≤ p.passed + p.given_room
   pub written : All (IsOn p.vars) p.written
   pub stop : IfSome p.stop IsOwnStop
+  pub few : p.tickets.limit < 2 ^ 64
 
 -- what is known of a port in memory: its state, and how often the head or a literal of a clause was read
 pub record PlainView : Type 0 where
@@ -125,8 +131,8 @@ pub record AreAllHeld (store : StoreData) : Type 0 where
   pub end : store.end ≡ words_of (pairs_of store.start)
 
 -- the port holds the start clauses, and nothing has happened yet
-abbrev pub begun_with : ℕ → List (ℕ × List Literal) → List Literal → LineState → PortState
-begun_with vars starts units output = record {
+abbrev pub begun_with : ℕ → List (ℕ × List Literal) → List Literal → LineState → ℕ → PortState
+begun_with vars starts units output limit = record {
   held = placed_from 0 starts;
   waiting = [];
   seen = [];
@@ -148,6 +154,9 @@ begun_with vars starts units output = record {
   rings = 1;
   depth = 1;
   last = None;
+  ticket = false;
+  found = 0;
+  limit = limit;
   stop = None;
   looks = 0;
   refused = None;

@@ -99,8 +99,15 @@ last_after Learn last a = Some a
 last_after Derive last a = last
 last_after UnitLine last a = last
 
+-- whether a ticket is in hand after a clause of this kind was added: learning uses it up
+abbrev pub ticket_after : Kind → Bool → Bool
+ticket_after Ruler ticket = ticket
+ticket_after Learn ticket = false
+ticket_after Derive ticket = ticket
+ticket_after UnitLine ticket = ticket
+
 -- the line of a clause of two literals or more was added: it is held at an address that was free, under the number of its
--- line; what was learned is the one learned last
+-- line; what was learned is the one learned last, and uses the ticket up
 pub record AddedClause (old new : PortState) (lits : List Literal) (glue : ℕ) (kind : Kind) (c : Cref) : Type 0 where
   pub number : ℕ
   pub going : old.ended ≡ false
@@ -111,6 +118,7 @@ pub record AddedClause (old new : PortState) (lits : List Literal) (glue : ℕ) 
     held = old.held ++ holding_of c number glue lits ∷ [];
     mine = old.mine ++ entry_of old number lits kind ∷ [];
     last = last_after kind old.last c.address;
+    ticket = ticket_after kind old.ticket;
     output = new.output;
   }
 
@@ -118,8 +126,8 @@ pub record AddedClause (old new : PortState) (lits : List Literal) (glue : ℕ) 
 abbrev pub LearnedClause : PortState → PortState → List Literal → ℕ → Cref → Type 0
 LearnedClause old new lits glue c = AddedClause old new lits glue Learn c
 
--- the line of a unit was added, and the unit is seen; a clause that was learned before it may still be offered, or not; units that
--- others listed meanwhile may be kept
+-- the line of a unit was added, and the unit is seen; what was learned uses the ticket up; a clause that was learned before it may
+-- still be offered, or not; units that others listed meanwhile may be kept
 pub record WroteUnit (old new : PortState) (l : Literal) (kind : Kind) (last : Option ℕ) : Type 0 where
   pub number : ℕ
   pub going : old.ended ≡ false
@@ -131,6 +139,7 @@ pub record WroteUnit (old new : PortState) (l : Literal) (kind : Kind) (last : O
     caught_up = new.caught_up;
     mine = old.mine ++ entry_of old number (l ∷ []) kind ∷ [];
     last = last;
+    ticket = ticket_after kind old.ticket;
     output = new.output;
   }
 

@@ -77,6 +77,12 @@ pub record PortState : Type 0 where
   pub depth : ℕ
   -- the address of the clause that was learned last, until it is offered
   pub last : Option ℕ
+  -- a ticket is in hand, with which one lemma may be learned
+  pub ticket : Bool
+  -- 0 at first; after a draw, one more than the number of tickets that had been drawn before it, by any ring
+  pub found : ℕ
+  -- how many tickets there are
+  pub limit : ℕ
   -- the stop that was seen or set
   pub stop : Option Stop
   -- how often the ring has looked for a stop and found none
@@ -140,7 +146,7 @@ AreApart (h ∷ hs) = All (λ k. k.address ≢ h.address) hs × AreApart hs
 
 -- each clause held or waiting is long and on the variables; an address has one clause, however often it is held, and none
 -- is both held and waiting, or waits twice; what was taken is held, and what was given is seen; start clauses and units are on the
--- variables; the stop is one of the rings'; each two rings have a slot for each class
+-- variables; the stop is one of the rings'; each two rings have a slot for each class; the number of tickets fits into 64 bits
 pub record IsPort (s : PortState) : Type 0 where
   pub held : All (IsKept s.vars) s.held
   pub one : (h k : Holding) → Contains s.held h → Contains s.held k → h.address ≡ k.address → h ≡ k
@@ -155,6 +161,7 @@ pub record IsPort (s : PortState) : Type 0 where
   pub stop : IfSome s.stop (IsStop s.rings)
   pub ring : s.ring < s.rings
   pub deep : 1 ≤ s.depth
+  pub few : s.limit < 2 ^ 64
 
 -- The opening
 

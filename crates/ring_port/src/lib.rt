@@ -2,6 +2,7 @@
 #![tactic(auto)]
 
 mod class;
+mod draw;
 mod gate;
 mod laws;
 mod opening_units;
@@ -18,6 +19,7 @@ mod store;
 mod words;
 
 pub use class::class_of;
+pub use draw::Drawn;
 pub use gate::{Gate, OpenGate, Point};
 pub use laws::{
     a_log_is_accepted, a_reduction_forgets, dropping_keeps_the_others, held_clauses_are_known,

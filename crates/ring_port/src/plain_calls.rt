@@ -1,5 +1,5 @@
 // The port in memory, which the program never runs: tests search over it, with every byte known to contracts.
-ghost use Rattle.std.specs.Prelude.{◌≡◌, ◌<◌, ◌≤◌, ◌∷◌, ◌⊎◌, [], true, Some, None, IfErr, IfSome, IsSome, length, slice_get};
+ghost use Rattle.std.specs.Prelude.{◌≡◌, ◌+◌, ◌<◌, ◌≤◌, ◌∷◌, ◌⊎◌, [], true, Some, None, IfErr, IfSome, IsSome, length, slice_get};
 ghost use Rattle.sat_words.specs.Clause.{has};
 ghost use Rattle.sat_words.specs.declared.shared.TheConstants.{STOP_SAT, STOP_MEMORY};
 ghost use Rattle.rup_model.specs.Rup.{rup};
@@ -7,10 +7,12 @@ ghost use Rattle.ring_port.specs.PortState.{IsPort, IsOn, held_at, lits_at, head
 ghost use Rattle.ring_port.specs.Log.{KeepsLog};
 ghost use Rattle.ring_port.specs.Port.{is_usable, IsClause, Learned, Derived, KeepsHeld, UnitWritten, EmptyWritten, Took, Looked, SetStop};
 ghost use Rattle.ring_port.specs.Reducing.{Noted};
+ghost use Rattle.ring_port.specs.Drawing.{HasDrawn};
 ghost use Rattle.ring_port.specs.Deleting.{Dropped, Tidied};
 ghost use Rattle.ring_port.specs.Exchange.{class_at, other_rings, OfferedAs};
 ghost use Rattle.ring_port.specs.PlainPort.{HasCauseAlone, HasTidyCause};
 
+use crate::draw::Drawn;
 use crate::opening_units::first_new_from;
 use crate::plain_lines::unless_at;
 use crate::plain_port::PlainPort;
@@ -58,6 +60,7 @@ impl<L: LineOut> Port for PlainPort<L> {
     }
 
     fn learn(&mut self, lits: &[Lit], glue: u32) -> Result<Option<Cref>, PortStop>
+        requires ticket { self.old.state.ticket ≡ true }
         requires usable { is_usable self.old.state.refused ≡ true }
         requires some { 1 ≤ length lits.now }
         requires clause { IsClause self.old.state.vars lits.now }
@@ -76,6 +79,17 @@ impl<L: LineOut> Port for PlainPort<L> {
             }
             _ => Ok(Some(self.put_clause(lits, glue, Kind::Learn)?)),
         }
+    }
+
+    fn draw(&mut self) -> Drawn
+        requires left { self.old.state.found ≤ self.old.state.limit }
+        ensures alone { self.new.state.found ≡ self.old.state.found + 1 }
+        ensures drawn { HasDrawn self.old.state self.new.state result }
+        ensures log { KeepsLog self.old.state self.new.state }
+        ensures port { IsPort self.new.state }
+        ensures loads { self.new.loads ≡ self.old.loads }
+    {
+        self.tickets.draw()
     }
 
     fn derive(&mut self, lits: &[Lit], glue: u32) -> Result<Cref, PortStop>

@@ -61,6 +61,7 @@ impl<L: LineOut> PlainPort<L> {
         self.log.add(lits, kind)?;
         self.written.push_reserved(lit);
         self.last = last;
+        self.tickets.use_for(kind);
         Ok(())
     }
 
@@ -120,6 +121,7 @@ impl<L: LineOut> PlainPort<L> {
         let c = self.store.push(lits, number, glue);
         let last = last_after(kind, self.last, c);
         self.last = last;
+        self.tickets.use_for(kind);
         Ok(c)
     }
 }

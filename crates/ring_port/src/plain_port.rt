@@ -8,6 +8,7 @@ ghost use Rattle.ring_port.specs.PortState.{Holding, IsPort, IsOn, HoldsStart};
 ghost use Rattle.ring_port.specs.Log.{StandsOver};
 ghost use Rattle.ring_port.specs.PlainPort.{OpensOver, CanOpen, starts_of, begun_with};
 
+use crate::draw::Tickets;
 use crate::own_log::OwnLog;
 use crate::starts::Starts;
 use crate::store::Store;
@@ -28,6 +29,7 @@ pub struct PlainPort<L: LineOut> {
     pub(crate) written: Vec<Lit>,
     pub(crate) log: OwnLog<L>,
     pub(crate) last: Option<Cref>,
+    pub(crate) tickets: Tickets,
     pub(crate) stop: Option<Stop>,
     pub(crate) looks: u64,
     pub(crate) caught_up: u64,
@@ -54,6 +56,7 @@ impl<L: LineOut> Model for PlainPort<L> {
         written = p.written.items;
         log = p.log;
         last = p.last;
+        tickets = p.tickets;
         stop = p.stop;
         looks = p.looks;
         caught_up = p.caught_up;
@@ -72,6 +75,7 @@ impl<L: LineOut> Model for PlainPort<L> {
       written = p.written.items;
       log = p.log;
       last = p.last;
+      tickets = p.tickets;
       stop = p.stop;
       looks = p.looks;
       caught_up = p.caught_up;
@@ -81,19 +85,21 @@ impl<L: LineOut> Model for PlainPort<L> {
 impl<L: LineOut> PlainPort<L> {
     /// The port of ring 0, of one ring, that holds the start clauses, each under its number, with glue 0, one
     /// after the other. Each has two literals or more and is alive in the log; the units are listed, and have no
-    /// line of the ring's. The log is continued where the line output stands. Refused for memory it gives that back.
+    /// line of the ring's. The log is continued where the line output stands. So many lemmas may be learned, each with a
+    /// ticket. Refused for memory it gives the line output back.
     pub fn new(
         alloc: Global,
         vars: u32,
         starts: Starts,
         units: Vec<Lit>,
         output: L,
+        limit: u64,
     ) -> Result<PlainPort<L>, AllocFailed<L>>
         requires opening { CanOpen (starts_of starts) units.items (L.told output) }
         requires unspent { (L.told output).spent ≡ false }
         requires starts_on { All (λ s. All (IsOn vars) s.1) starts }
         requires units_on { All (IsOn vars) units.items }
-        ensures made { IfOk result (λ port. port.state ≡ begun_with vars starts units.items (L.told output)) }
+        ensures made { IfOk result (λ port. port.state ≡ begun_with vars starts units.items (L.told output) limit) }
         ensures stands { IfOk result (λ port. (F : List (List Literal)) (J : List Entry) → OpensOver F (starts_of starts) units.items (L.told output) J → list_any is_empty F ≡ false → StandsOver (record { formula = F; journal = J; output = L.told output }) port.state) }
         ensures holds { IfOk result (λ port. HoldsStart port.state) }
         ensures port { IfOk result (λ port. IsPort port.state) }
@@ -114,6 +120,7 @@ impl<L: LineOut> PlainPort<L> {
             written: Vec::new(alloc),
             log: OwnLog::new(alloc, output),
             last: None,
+            tickets: Tickets::new(limit),
             stop: None,
             looks: 0,
             caught_up: 0,

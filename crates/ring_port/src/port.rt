@@ -1,4 +1,4 @@
-ghost use Rattle.std.specs.Prelude.{◌≡◌, ◌≢◌, ◌<◌, ◌≤◌, ◌∷◌, [], true, All, Some, IfSome, IsSome, length, slice_get};
+ghost use Rattle.std.specs.Prelude.{◌≡◌, ◌≢◌, ◌<◌, ◌≤◌, ◌∷◌, [], true, false, All, Some, IfSome, IsSome, length, slice_get};
 ghost use Rattle.sat_words.specs.Literal.{Literal};
 ghost use Rattle.sat_words.specs.Values.{first_open};
 ghost use Rattle.sat_words.specs.declared.shared.TheConstants.{STOP_SAT, STOP_REFUTED, STOP_MEMORY};
@@ -6,10 +6,12 @@ ghost use Rattle.rup_model.specs.Rup.{rup};
 ghost use Rattle.ring_port.specs.PortState.{PortState, IsPort, IsOn, held_at, lits_at, head_of, known};
 ghost use Rattle.ring_port.specs.Log.{KeepsLog};
 ghost use Rattle.ring_port.specs.Port.{is_usable, IsClause, IsFreshClause, Learned, IsPartOfHeld, Derived, KeepsHeld, UnitWritten, EmptyWritten, Took, Looked, SetStop};
+ghost use Rattle.ring_port.specs.Drawing.{HasDrawn};
 ghost use Rattle.ring_port.specs.Deleting.{IsNotTaken, Dropped, Tidied};
 ghost use Rattle.ring_port.specs.Reducing.{MayReduce, Noted};
 ghost use Rattle.ring_port.specs.Exchange.{class_at, other_rings, OfferedAs, Polled};
 
+use crate::draw::Drawn;
 use crate::scan::Shape;
 use crate::stops::PortStop;
 use sat_words::{Cref, Head, Lit, Set, Stop, Values};
@@ -83,10 +85,21 @@ pub trait Port {
         None
     }
 
+    /// Draws a ticket, with which one lemma may be learned, unless all have been drawn. Rings draw from the same tickets, so that each
+    /// draw finds more of them drawn than the ring's last one did. After `Gone` none is left to ask for.
+    fn draw(&mut self) -> Drawn
+        requires none { (state self.old).ticket ≡ false }
+        requires left { (state self.old).found ≤ (state self.old).limit }
+        ensures drawn { HasDrawn (state self.old) (state self.new) result }
+        ensures log { KeepsLog (state self.old) (state self.new) }
+        ensures port { IsPort (state self.new) };
+
     /// Learns a clause that was found at a conflict: its line is written, and it is held from then on with its literals
     /// in this order. The glue is that of `Head`. Of one literal it is a unit, which has no address and is seen. The clause
-    /// contains none that the ring started with, learned or took since it last reduced.
+    /// contains none that the ring started with, learned or took since it last reduced. It uses the ticket in hand up,
+    /// unless it is refused.
     fn learn(&mut self, lits: &[Lit], glue: u32) -> Result<Option<Cref>, PortStop>
+        requires ticket { (state self.old).ticket ≡ true }
         requires usable { is_usable (state self.old).refused ≡ true }
         requires some { 1 ≤ length lits.now }
         requires clause { IsClause (state self.old).vars lits.now }

@@ -1,5 +1,5 @@
 -- How a run begins, and what it leaves.
-use Rattle.std.proofs.Common.{◌≡◌, ◌∙◌, ◌≤◌, ◌+◌, ◌-◌, ◌%◌, ◌==◌, Bool, true, false, ℕ, List, [], length, map, sym, subst, ap, arith, inl, Some, IsSome, refl, Contains, get_or, eq-eqb, slice_index_or}
+use Rattle.std.proofs.Common.{◌≡◌, ◌∙◌, ◌+◌, ◌-◌, ◌%◌, ◌==◌, Bool, true, false, ℕ, List, [], length, map, sym, subst, ap, arith, inl, Some, IsSome, refl, Contains, get_or, eq-eqb, slice_index_or}
 use Rattle.std.specs.Prelude.{All}
 use Rattle.std.specs.List.{list_any}
 use Rattle.std.specs.declared.option.Option.{Option}
@@ -20,7 +20,7 @@ use Rattle.ring_trail.specs.TrailData.{TrailData, IsTrail}
 use Rattle.watch_prop.specs.WatchData.{attached}
 use Rattle.watch_prop.specs.Watched.{Watched, IsFresh}
 use Rattle.ring_decide.specs.DeciderData.{DeciderData}
-use Rattle.restart_plan.specs.Plan.{Restarting, IsRestarting, IsExact, AreMost, AreMostBefore, begun as nothing_came}
+use Rattle.restart_plan.specs.Plan.{Restarting, IsRestarting, IsExact, AreMost, begun as nothing_came}
 use Rattle.restart_plan.proofs.Restarting.{exact-none, exact-most}
 use Rattle.ring_run.specs.Ended.{IsTimely, IsJobOf, IsUntouched, IsOwn, IsNewLine, HasRestarted, opening_of, reductions}
 use Rattle.ring_run.specs.Strategy.{Decides, IsPaced, AreMarked, OccurMarked, OccursIn}
@@ -34,7 +34,7 @@ use Rattle.ring_run.proofs.Lately.{lately_none}
 
 pub runs_begin : (s : PortState) → IsUntouched s → IsPort s → Runs s s 0
 runs_begin s p port = record {
-  stays = record { start = refl; opening = refl; vars = refl; ring = refl; rings = refl; depth = refl; polled = omega arith; home = refl; log = λ o h. h };
+  stays = record { start = refl; opening = refl; vars = refl; ring = refl; rings = refl; depth = refl; polled = omega arith; limit = refl; home = refl; log = λ o h. h };
   held = p.held;
   wrote = subst (All (IsOwn s.ring s.vars)) (sym p.mine) (λ k d h. absurd (omega arith));
   counted = sym (ap (λ (J : List Entry). length (learned s.ring J)) p.mine);
@@ -53,6 +53,7 @@ goes_begin s p port = record {
   stop = p.stop;
   refused = p.refused;
   held = p.held;
+  draws = record { none = p.ticket; left = omega (arith, p.found); within = omega arith };
 }
 
 -- no lemma is listed yet
@@ -157,28 +158,25 @@ decides_begin s job d marks asked held port is long marked only = record {
         }
 
 -- no restart was made, and none is due
-pub paced_begin : (odd : Bool) (limit : ℕ) → 1 ≤ limit → IsPaced (nothing_came odd) 0 limit
-paced_begin odd limit some = record {
+pub paced_begin : (odd : Bool) → IsPaced (nothing_came odd) 0
+paced_begin odd = record {
   count = refl;
-  exact = λ is lt. subst (λ (b : Bool). IsExact (nothing_came b)) (sym is) exact-none;
-  last = λ is e. absurd (omega arith);
+  exact = λ is. subst (λ (b : Bool). IsExact (nothing_came b)) (sym is) exact-none;
 }
 
 -- the ring's number is odd if its remainder by 2 is 1
 odd_of : (ring : ℕ) → ring % 2 ≡ 1 → (ring % 2 == 1) ≡ true
 odd_of ring e = eq-eqb (ring % 2) 1 e
 
-pub restarted_by : (ring limit : ℕ) (r : Restarting) (counts : Counts) → r.odd ≡ (ring % 2 == 1) → IsRestarting r → IsPaced r counts.learned limit → counts.restarts ≡ r.made → HasRestarted ring limit counts
-restarted_by ring limit r counts odd kept p made = record {
+pub restarted_by : (ring : ℕ) (r : Restarting) (counts : Counts) → r.odd ≡ (ring % 2 == 1) → IsRestarting r → IsPaced r counts.learned → counts.restarts ≡ r.made → HasRestarted ring counts
+restarted_by ring r counts odd kept p made = record {
   few = omega (arith, kept.few, p.count, made);
-  most = λ is lt. subst (λ (m : ℕ). AreMost m counts.learned) (sym made) (subst (AreMost r.made) p.count (exact-most r (p.exact (odd ∙ odd_of ring is) lt)));
-  spent = λ is e. subst (λ (m : ℕ). AreMostBefore m counts.learned) (sym made) (subst (AreMostBefore r.made) p.count (p.last (odd ∙ odd_of ring is) e));
+  most = λ is. subst (λ (m : ℕ). AreMost m counts.learned) (sym made) (subst (AreMost r.made) p.count (exact-most r (p.exact (odd ∙ odd_of ring is))));
 }
 
 -- a ring that learned nothing made no restart
-pub restarted_none : (ring limit : ℕ) → 1 ≤ limit → HasRestarted ring limit (record { learned = 0; exported = 0; offered = 0; restarts = 0 })
-restarted_none ring limit some = record {
+pub restarted_none : (ring : ℕ) → HasRestarted ring (record { learned = 0; exported = 0; offered = 0; restarts = 0 })
+restarted_none ring = record {
   few = omega arith;
-  most = λ odd lt. exact-most (nothing_came true) exact-none;
-  spent = λ odd e. absurd (omega arith);
+  most = λ odd. exact-most (nothing_came true) exact-none;
 }

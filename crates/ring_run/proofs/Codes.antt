@@ -9,10 +9,10 @@ use Rattle.ring_run.specs.Renewal.{Point, round_from, most_probes, code_on, Took
 use Rattle.ring_run.specs.Halting.{HaltsAtCode, HaltsProbing, HaltsInRound}
 use Rattle.ring_run.specs.declared.job.End.{End}
 
-le_true : (a b : ℕ) → a ≤ b → nat_le a b ≡ true
+pub le_true : (a b : ℕ) → a ≤ b → nat_le a b ≡ true
 le_true a b h = grind (arith, leb_tells, h)
 
-le_false : (a b : ℕ) → b < a → nat_le a b ≡ false
+pub le_false : (a b : ℕ) → b < a → nat_le a b ≡ false
 le_false a b h = grind (arith, leb_tells, h)
 
 lt_true : (a b : ℕ) → a < b → nat_lt a b ≡ true

@@ -25,6 +25,7 @@ use Rattle.ring_run.specs.Ending.{EndsBy}
 use Rattle.ring_run.specs.Course.{Searches, InSearch}
 use Rattle.ring_run.specs.declared.ring.Ring.{Ring}
 use Rattle.ring_run.specs.declared.job.End.TheVariants.{Sat}
+use Rattle.ring_run.proofs.Tickets.{drawn_none}
 use Rattle.ring_run.proofs.Remembering.{stands_there}
 use Rattle.ring_run.proofs.Standing.{within_more}
 use Rattle.ring_run.proofs.Progress.{usable_none}
@@ -111,9 +112,9 @@ full_model start s t w n k decider a p goes quiet decides full long all = record
         closed_true t a h.lits p.trail (λ l has_it. full l.var (decides.active h l there has_it)) all
         (subst (λ (c : List Literal). IsClosedClause c t.steps t.level) lits (quiet.closed t.level (lits_at s h.address) inside))
 
-pub model_found : (s : PortState) (ring : Ring) (limit : ℕ) (a : List Bool) → InSearch s ring → ring.learned < limit → IsQuiet ring.watches (lits_at s) ring.trail → AreFirst ring.trail ring.written → Decides s ring.decider → AllValued ring.decider ring.trail.steps
-    → length a ≡ ring.trail.vars → ((l : Literal) → IsTrueOn ring.trail.steps l → lit_true a l ≡ true) → EndsBy s ring.learned s ring.learned limit (Sat a)
-model_found s ring limit a p below quiet first decides full long all = λ start goes. record {
+pub model_found : (s : PortState) (ring : Ring) (a : List Bool) → InSearch s ring → IsQuiet ring.watches (lits_at s) ring.trail → AreFirst ring.trail ring.written → Decides s ring.decider → AllValued ring.decider ring.trail.steps
+    → length a ≡ ring.trail.vars → ((l : Literal) → IsTrueOn ring.trail.steps l → lit_true a l ≡ true) → EndsBy s ring.learned s ring.learned (Sat a)
+model_found s ring a p quiet first decides full long all = λ start goes. record {
   runs = goes.runs;
   cause = (
     full_model start s ring.trail ring.watches ring.learned ring.written ring.decider a p goes quiet decides full long all,
@@ -122,7 +123,8 @@ model_found s ring limit a p below quiet first decides full long all = λ start 
     goes.going,
   );
   unset = goes.stop;
-  counts = below;
+  tickets = (goes.draws.none, goes.draws.left);
+  drawn = drawn_none s ring.learned goes.draws;
 }
 
 -- the port keeps its start clauses, and the decider which variables are active

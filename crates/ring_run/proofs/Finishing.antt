@@ -1,4 +1,4 @@
--- What comes after a lemma that isn't the last.
+-- What comes after a lemma.
 use Rattle.std.proofs.Common.{◌≡◌, ◌∙◌, ℕ, Bool, List, [], sym, subst, refl, length, inl, inr}
 use Rattle.std.specs.declared.option.Option.{Option}
 use Rattle.sat_words.specs.Literal.{Literal}
@@ -68,7 +68,7 @@ module _ (s w u : PortState) (old : Ring) (r : Restarting) (due : Bool) (new : R
   pub finished_memory : TidiedUpTo s w (length s.waiting) → HasFinished s u old new lits back address (Finish Memory)
   finished_memory tidied = record {
     asked_for = asked_kept s w u old (asked_ring old r due) new same k a;
-    leaves = (subst (λ (x : PortState). EndsAt s x Memory) (sym same) (λ count limit below start p. out_of_memory start w count limit below (keeps start count p)), tt, subst (λ (x : PortState). HaltsDeleting s x Memory) (sym same) (inr (tidied, refl)));
+    leaves = (subst (λ (x : PortState). EndsAt s x Memory) (sym same) (λ count start p. out_of_memory start w count (keeps start count p)), tt, subst (λ (x : PortState). HaltsDeleting s x Memory) (sym same) (inr (tidied, refl)));
   }
 
   -- the conflict was left

@@ -38,6 +38,7 @@ use Rattle.ring_run.proofs.Progress.{stays_by, news_moved, lines_moved, runs_sam
 use Rattle.ring_run.proofs.Learning.{held_more}
 use Rattle.ring_run.proofs.Telling.{never, told_same}
 use Rattle.std.specs.declared.option.Option.{Option}
+use Rattle.ring_run.proofs.Tickets.{tickets_of, limit_same, draws_same}
 
 -- Units
 
@@ -130,6 +131,7 @@ module _ (s w : PortState) (k : Literal) (took : TookUnit s w k) (seen : AddedSe
     rings = ap (λ (x : PortState). x.rings) took.state;
     depth = ap (λ (x : PortState). x.depth) took.state;
     polled = omega (arith, ap (λ (x : PortState). x.polled) took.state);
+    limit = ap (λ (x : PortState). x.limit) took.state;
     home = ap (λ (x : PortState). x.home) took.state;
     log = log;
   }
@@ -143,6 +145,7 @@ module _ (s w : PortState) (k : Literal) (took : TookUnit s w k) (seen : AddedSe
       record {
         runs = runs_same start s w n p.runs stays held (λ l h. took.sees l ∙ or_left (has s.seen l) (same k l) h) mine
             (took_lines start.vars (subst (λ (r : ℕ). All (IsOwn r start.vars) s.mine) (sym p.runs.stays.ring) p.runs.wrote) p.runs.new_lines) port;
+        draws = draws_same s w n (ap tickets_of took.state) p.draws;
         going = ap (λ (J : List Entry). list_any is_empty (added J)) mine ∙ p.going;
         stop = ap (λ (x : PortState). x.stop) took.state ∙ p.stop;
         refused = ap (λ (x : PortState). x.refused) took.state ∙ p.refused;
@@ -166,6 +169,7 @@ pub record Polls (s u : PortState) (given : List Cref) : Type 0 where
   pub depth : u.depth ≡ s.depth
   pub polled : u.polled ≡ one_more s.polled
   pub taken : u.taken ≡ s.taken ++ map (λ (c : Cref). c.address) given
+  pub tickets : tickets_of u ≡ tickets_of s
   pub home : u.home ≡ s.home
   pub seen : u.seen ≡ s.seen
   pub units : u.given ≡ s.given
@@ -185,6 +189,7 @@ polled_none s u ring class place is = subst (λ (x : PortState). Polls s x []) (
   depth = refl;
   polled = refl;
   taken = sym (append-nil s.taken);
+  tickets = refl;
   home = refl;
   seen = refl;
   units = refl;
@@ -205,6 +210,7 @@ polled_some s u ring class place c w kept = record {
   depth = ap (λ (x : PortState). x.depth) w.state;
   polled = ap (λ (x : PortState). x.polled) w.state;
   taken = ap (λ (x : PortState). x.taken) w.state;
+  tickets = ap tickets_of w.state;
   home = ap (λ (x : PortState). x.home) w.state;
   seen = ap (λ (x : PortState). x.seen) w.state;
   units = ap (λ (x : PortState). x.given) w.state;
@@ -233,6 +239,7 @@ module _ (s u : PortState) (given : List Cref) (d : Polls s u given) (one : leng
     rings = d.rings;
     depth = d.depth;
     polled = omega (arith, d.polled);
+    limit = limit_same s u d.tickets;
     home = d.home;
     log = log;
   }
@@ -268,6 +275,7 @@ module _ (s u : PortState) (given : List Cref) (d : Polls s u given) (one : leng
           lately = lately_same s u d.ring d.mine d.kept (sees_same s u d.seen) p.runs.lately;
           port = port;
         };
+        draws = draws_same s u n d.tickets p.draws;
         going = ap (λ (J : List Entry). list_any is_empty (added J)) d.mine ∙ p.going;
         stop = d.stop ∙ p.stop;
         refused = d.refused ∙ p.refused;

@@ -1,5 +1,5 @@
 -- Whether a ring reduces its lemmas in time.
-use Rattle.std.proofs.Common.{◌≡◌, ◌∙◌, ℕ, ◌+◌, ◌-◌, ◌*◌, ◌<◌, ◌%◌, Bool, true, false, List, [], ◌∷◌, length, sym, ap, arith, Some, None, Ok}
+use Rattle.std.proofs.Common.{◌≡◌, ◌∙◌, ℕ, ◌+◌, ◌-◌, ◌*◌, ◌%◌, Bool, true, false, List, [], ◌∷◌, length, sym, ap, arith, Some, None, Ok}
 use Rattle.std.specs.Prelude.{if◌then◌else◌}
 use Rattle.std.specs.declared.option.Option.{Option}
 use Rattle.sat_words.specs.Literal.{Literal}
@@ -10,7 +10,7 @@ use Rattle.rup_model.specs.declared.journal.Kind.TheVariants.{Learn}
 use Rattle.ring_port.specs.PortState.{PortState}
 use Rattle.ring_port.specs.Port.{Learned}
 use Rattle.restart_plan.specs.Luby.{luby_sum}
-use Rattle.restart_plan.specs.Plan.{Restarting, luby_unit, noted, asked, restarted, is_due}
+use Rattle.restart_plan.specs.Plan.{Restarting, luby_unit, asked, restarted, is_due}
 use Rattle.ring_run.specs.Ended.{IsInTime, IsReducedInTime, ReducesBy, IsHalted, reductions}
 use Rattle.ring_run.specs.Searching.{OnlyWrote}
 use Rattle.ring_run.specs.Strategy.{IsPaced}
@@ -86,11 +86,8 @@ in_time_any s ring Go h = λ settled. h
 in_time_any s ring (Finish end) h = in_time_end s ring.restarts end h
 
 -- what Luby's sequence says
-pub sums_exact : (r : Restarting) (learned limit : ℕ) → IsPaced r learned limit → learned < limit → SumsUp r
-sums_exact r learned limit p below odd = (p.exact odd below).all
-
-pub sums_noted : (r : Restarting) (glue learned limit : ℕ) → IsPaced r learned limit → learned < limit → SumsUp (noted r glue)
-sums_noted r glue learned limit p below odd = let all = (p.exact odd below).all in omega (arith, all)
+pub sums_exact : (r : Restarting) (learned : ℕ) → IsPaced r learned → SumsUp r
+sums_exact r learned p odd = (p.exact odd).all
 
 -- so a run that counted this many lemmas and restarts had reduced its lemmas in time
 pub reduced_counts : (s : PortState) (r : Restarting) (counts : Counts) → (s.ring % 2 ≡ 1 → r.odd ≡ true) → SumsUp r → r.count ≡ counts.learned → counts.restarts ≡ r.made → IsInTime s r.since → IsReducedInTime s counts

@@ -29,9 +29,9 @@ use Rattle.ring_run.proofs.Standing.{sees_old, sees_new, seen_of, within_more, w
 use Rattle.ring_run.proofs.Asserting.{back_within, forces_first, seen_back, first_has_no_value}
 use Rattle.ring_run.proofs.Telling.{told_step, told_same, told_unit, told_back, unseen_false}
 use Rattle.std.proofs.lemmas.Bool.{false≢true}
-use Rattle.ring_run.proofs.Progress.{clause_goes_on, unit_learned_goes_on, starts_kept}
+use Rattle.ring_run.proofs.Progress.{IsReady, clause_goes_on, unit_learned_goes_on, starts_kept}
 
-pub learned_any : (start s u : PortState) (n glue : ℕ) (t : TrailData) (lits : List Literal) (back : ℕ) (address : Option Cref) → GoesOn start s n → Stands s t → IsAsserting s t lits back → IsGlueOf t.steps lits glue → Learned s u lits glue (Ok address)
+pub learned_any : (start s u : PortState) (n glue : ℕ) (t : TrailData) (lits : List Literal) (back : ℕ) (address : Option Cref) → IsReady start s n → Stands s t → IsAsserting s t lits back → IsGlueOf t.steps lits glue → Learned s u lits glue (Ok address)
     → KeepsHeld s u → KeepsLog s u → IsPort u → GoesOn start u (n + 1)
 learned_any start s u n glue t lits back (Some c) p stands a counts w kept log port =
     clause_goes_on start s u n glue t.steps lits c p (subst (λ (v : ℕ). IsClause v lits) stands.vars a.clause) a.is_new_to counts w kept log port
@@ -280,6 +280,5 @@ left_level u old new lits back address (inl at) =
     omega (arith, level, is)
 left_level u old new lits back address (inr at) = let is = ap (λ (t : TrailData). t.level) at.2.went.is in omega (arith, is)
 
-pub goes_on_by : (s u : PortState) (old new : Ring) (limit : ℕ) → InSearch u new → new.learned < limit → ((start : PortState) → GoesOn start s old.learned → GoesOn start u new.learned)
-    → GoesOnBy s old u new limit
-goes_on_by s u old new limit p below goes = record { search = p; below = below; goes = goes }
+pub goes_on_by : (s u : PortState) (old new : Ring) → InSearch u new → ((start : PortState) → GoesOn start s old.learned → GoesOn start u new.learned) → GoesOnBy s old u new
+goes_on_by s u old new p goes = record { search = p; goes = goes }

@@ -36,6 +36,7 @@ use Rattle.ring_run.proofs.Progress.{runs_alike, lines_moved, starts_kept, glue_
 use Rattle.ring_run.proofs.Telling.{told_same}
 use Rattle.ring_run.proofs.Turning.{clauses_alike}
 use Rattle.ring_run.proofs.Offering.{nothing_same, OnlyLent, offers_stay, offers_learned, offers_kept}
+use Rattle.ring_run.proofs.Tickets.{tickets_of, draws_same}
 
 lent_stays : (s u : PortState) → OnlyLent s u → KeepsLog s u → Stays s u
 lent_stays s u p log =
@@ -48,6 +49,7 @@ lent_stays s u p log =
       rings = ap (λ (x : PortState). x.rings) is;
       depth = ap (λ (x : PortState). x.depth) is;
       polled = omega (arith, ap (λ (x : PortState). x.polled) is);
+      limit = ap (λ (x : PortState). x.limit) is;
       home = ap (λ (x : PortState). x.home) is;
       log = log;
     }
@@ -83,6 +85,7 @@ lent_goes_on start s u n p lent log port =
     record {
       runs = runs_alike start s u n p.runs stays (λ a h. lent.same a) (λ h there. inl (lent_contains s u lent.same port h there)) (sees_same s u (ap (λ (x : PortState). x.seen) lent.state)) mine
           (lines_moved s u s.mine stays (ap (λ (x : PortState). x.given) lent.state) mine p.runs.new_lines) port;
+      draws = draws_same s u n (ap tickets_of lent.state) p.draws;
       going = ap (λ (J : List Entry). list_any is_empty (added J)) mine ∙ p.going;
       stop = ap (λ (x : PortState). x.stop) lent.state ∙ p.stop;
       refused = ap (λ (x : PortState). x.refused) lent.state ∙ p.refused;
@@ -243,7 +246,7 @@ offering_learned s u v old new steps glue lits address p w counts lent learned =
 }
 
 pub saw_nothing : (s u : PortState) → OnlySaw s u → OffersNothing s u
-saw_nothing s u p = nothing_same s u p.shared p.polled p.polls p.polls_after p.caught_up p.stays.ring p.stays.rings p.stays.depth p.mine
+saw_nothing s u p = nothing_same s u p.shared p.polled p.polls p.polls_after p.caught_up p.stays.ring p.stays.rings p.stays.depth p.mine (ap (λ (x : PortState). x.found) p.state)
 
 -- a lemma that has an address is held
 pub lent_held : (s u v : PortState) (lits : List Literal) (glue : ℕ) (address : Option Cref) → Learned s u lits glue (Ok address) → OnlyLent u v → IfSome address (λ c. IsSome (held_at v c.address))

@@ -3,6 +3,7 @@ pub mod Remembering
 pub mod Numbering
 pub mod Lately
 pub mod Standing
+pub mod Tickets
 pub mod Progress
 pub mod News
 pub mod Asserting
@@ -26,6 +27,7 @@ pub mod Offering
 pub mod Lending
 pub mod Outcomes
 pub mod Listing
+pub mod Drawing
 pub mod Sharing
 pub mod Finishing
 pub mod Behind

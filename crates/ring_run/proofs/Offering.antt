@@ -25,10 +25,11 @@ use Rattle.sat_words.specs.declared.shared.Set.{Set}
 use Rattle.sat_words.specs.declared.shared.Set.TheVariants.{Won, Lost}
 use Rattle.ring_run.specs.Ended.{HasOffered, is_short, is_long}
 use Rattle.ring_run.specs.Searching.{OffersNothing, HasLent, HasLentBy}
+use Rattle.ring_run.proofs.Tickets.{found_same}
 use Rattle.ring_run.proofs.Progress.{Unchanged, same_refused}
 
-pub nothing_same : (s u : PortState) → u.shared ≡ s.shared → u.polled ≡ s.polled → u.polls ≡ s.polls → u.polls_after ≡ s.polls_after → min s.caught_up (2 ^ 64 - 1) ≤ u.caught_up → u.ring ≡ s.ring → u.rings ≡ s.rings → u.depth ≡ s.depth → u.mine ≡ s.mine → OffersNothing s u
-nothing_same s u shared polled polls polls_after caught_up ring rings depth mine = record {
+pub nothing_same : (s u : PortState) → u.shared ≡ s.shared → u.polled ≡ s.polled → u.polls ≡ s.polls → u.polls_after ≡ s.polls_after → min s.caught_up (2 ^ 64 - 1) ≤ u.caught_up → u.ring ≡ s.ring → u.rings ≡ s.rings → u.depth ≡ s.depth → u.mine ≡ s.mine → u.found ≡ s.found → OffersNothing s u
+nothing_same s u shared polled polls polls_after caught_up ring rings depth mine found = record {
   shared = shared;
   polled = polled;
   polls = polls;
@@ -37,19 +38,20 @@ nothing_same s u shared polled polls polls_after caught_up ring rings depth mine
   ring = ring;
   rings = rings;
   depth = depth;
+  found = found;
   lemmas = ap (λ (r : ℕ). learned r u.mine) ring ∙ ap (learned s.ring) mine;
 }
 
 pub nothing_none : (s : PortState) → OffersNothing s s
-nothing_none s = record { shared = refl; polled = refl; polls = refl; polls_after = refl; caught_up = omega arith; ring = refl; rings = refl; depth = refl; lemmas = refl }
+nothing_none s = record { shared = refl; polled = refl; polls = refl; polls_after = refl; caught_up = omega arith; ring = refl; rings = refl; depth = refl; found = refl; lemmas = refl }
 
 pub nothing_then : (s u w : PortState) → OffersNothing s u → OffersNothing u w → OffersNothing s w
-nothing_then s u w p q = record { shared = q.shared ∙ p.shared; polled = q.polled ∙ p.polled; polls = q.polls ∙ p.polls; polls_after = q.polls_after ∙ p.polls_after; caught_up = omega (arith, p.caught_up, q.caught_up); ring = q.ring ∙ p.ring; rings = q.rings ∙ p.rings; depth = q.depth ∙ p.depth; lemmas = q.lemmas ∙ p.lemmas }
+nothing_then s u w p q = record { shared = q.shared ∙ p.shared; polled = q.polled ∙ p.polled; polls = q.polls ∙ p.polls; polls_after = q.polls_after ∙ p.polls_after; caught_up = omega (arith, p.caught_up, q.caught_up); ring = q.ring ∙ p.ring; rings = q.rings ∙ p.rings; depth = q.depth ∙ p.depth; found = q.found ∙ p.found; lemmas = q.lemmas ∙ p.lemmas }
 
 pub nothing_refused : (s u : PortState) (stop : PortStop) → Refused s u stop → OffersNothing s u
 nothing_refused s u stop r =
     let same : Unchanged s u = subst (Unchanged s) (sym r.state) (same_refused s u.output stop) in
-    nothing_same s u same.shared same.polled same.polls same.polls_after (omega (arith, same.caught_up)) same.ring same.rings same.depth same.mine
+    nothing_same s u same.shared same.polled same.polls same.polls_after (omega (arith, same.caught_up)) same.ring same.rings same.depth same.mine (found_same s u same.tickets)
 
 -- an entry of another kind is none that was learned
 not_among : (r : ℕ) (x : Addition) → is_learn x.kind ≡ false → learned r (Add x ∷ []) ≡ []
@@ -66,8 +68,8 @@ same_lemmas s number lits kind other =
     ∙ append-nil (learned s.ring s.mine)
 
 nothing_added : (s u : PortState) (number : ℕ) (lits : List Literal) (kind : Kind) → is_learn kind ≡ false → u.shared ≡ s.shared → u.polled ≡ s.polled → u.polls ≡ s.polls → u.polls_after ≡ s.polls_after → min s.caught_up (2 ^ 64 - 1) ≤ u.caught_up → u.ring ≡ s.ring → u.rings ≡ s.rings → u.depth ≡ s.depth
-    → u.mine ≡ s.mine ++ entry_of s number lits kind ∷ [] → OffersNothing s u
-nothing_added s u number lits kind other shared polled polls polls_after caught_up ring rings depth mine = record {
+    → u.mine ≡ s.mine ++ entry_of s number lits kind ∷ [] → u.found ≡ s.found → OffersNothing s u
+nothing_added s u number lits kind other shared polled polls polls_after caught_up ring rings depth mine found = record {
   shared = shared;
   polled = polled;
   polls = polls;
@@ -76,21 +78,22 @@ nothing_added s u number lits kind other shared polled polls polls_after caught_
   ring = ring;
   rings = rings;
   depth = depth;
+  found = found;
   lemmas = ap (λ (r : ℕ). learned r u.mine) ring ∙ ap (learned s.ring) mine ∙ same_lemmas s number lits kind other;
 }
 
 pub nothing_unit : (s u : PortState) (l : Literal) (r : Result (Unit {0}) PortStop) → UnitWritten s u l r → OffersNothing s u
 nothing_unit s u l (Ok done) w =
-    nothing_added s u w.number (l ∷ []) UnitLine refl (ap (λ (x : PortState). x.shared) w.state) (ap (λ (x : PortState). x.polled) w.state) (ap (λ (x : PortState). x.polls) w.state) (ap (λ (x : PortState). x.polls_after) w.state) (omega (arith, w.looked)) (ap (λ (x : PortState). x.ring) w.state) (ap (λ (x : PortState). x.rings) w.state) (ap (λ (x : PortState). x.depth) w.state) (ap (λ (x : PortState). x.mine) w.state)
+    nothing_added s u w.number (l ∷ []) UnitLine refl (ap (λ (x : PortState). x.shared) w.state) (ap (λ (x : PortState). x.polled) w.state) (ap (λ (x : PortState). x.polls) w.state) (ap (λ (x : PortState). x.polls_after) w.state) (omega (arith, w.looked)) (ap (λ (x : PortState). x.ring) w.state) (ap (λ (x : PortState). x.rings) w.state) (ap (λ (x : PortState). x.depth) w.state) (ap (λ (x : PortState). x.mine) w.state) (ap (λ (x : PortState). x.found) w.state)
 nothing_unit s u l (Err stop) w = nothing_refused s u stop w
 
 pub nothing_empty : (s u : PortState) (r : Result (Unit {0}) PortStop) → EmptyWritten s u r → OffersNothing s u
 nothing_empty s u (Ok done) w =
-    nothing_added s u w.number [] Derive refl (ap (λ (x : PortState). x.shared) w.state) (ap (λ (x : PortState). x.polled) w.state) (ap (λ (x : PortState). x.polls) w.state) (ap (λ (x : PortState). x.polls_after) w.state) (let same = ap (λ (x : PortState). x.caught_up) w.state in omega (arith, same)) (ap (λ (x : PortState). x.ring) w.state) (ap (λ (x : PortState). x.rings) w.state) (ap (λ (x : PortState). x.depth) w.state) (ap (λ (x : PortState). x.mine) w.state)
+    nothing_added s u w.number [] Derive refl (ap (λ (x : PortState). x.shared) w.state) (ap (λ (x : PortState). x.polled) w.state) (ap (λ (x : PortState). x.polls) w.state) (ap (λ (x : PortState). x.polls_after) w.state) (let same = ap (λ (x : PortState). x.caught_up) w.state in omega (arith, same)) (ap (λ (x : PortState). x.ring) w.state) (ap (λ (x : PortState). x.rings) w.state) (ap (λ (x : PortState). x.depth) w.state) (ap (λ (x : PortState). x.mine) w.state) (ap (λ (x : PortState). x.found) w.state)
 nothing_empty s u (Err stop) w = nothing_refused s u stop w
 
 nothing_is : (s u : PortState) (looks : ℕ) (stop : Option Stop) → u ≡ record s { looks = looks; stop = stop } → OffersNothing s u
-nothing_is s u looks stop is = nothing_same s u (ap (λ (x : PortState). x.shared) is) (ap (λ (x : PortState). x.polled) is) (ap (λ (x : PortState). x.polls) is) (ap (λ (x : PortState). x.polls_after) is) (let same = ap (λ (x : PortState). x.caught_up) is in omega (arith, same)) (ap (λ (x : PortState). x.ring) is) (ap (λ (x : PortState). x.rings) is) (ap (λ (x : PortState). x.depth) is) (ap (λ (x : PortState). x.mine) is)
+nothing_is s u looks stop is = nothing_same s u (ap (λ (x : PortState). x.shared) is) (ap (λ (x : PortState). x.polled) is) (ap (λ (x : PortState). x.polls) is) (ap (λ (x : PortState). x.polls_after) is) (let same = ap (λ (x : PortState). x.caught_up) is in omega (arith, same)) (ap (λ (x : PortState). x.ring) is) (ap (λ (x : PortState). x.rings) is) (ap (λ (x : PortState). x.depth) is) (ap (λ (x : PortState). x.mine) is) (ap (λ (x : PortState). x.found) is)
 
 pub nothing_looked : (s u : PortState) (o : Option Stop) → Looked s u o → OffersNothing s u
 nothing_looked s u None w = nothing_is s u _ s.stop w.1

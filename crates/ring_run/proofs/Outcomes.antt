@@ -1,14 +1,14 @@
 -- What learning comes to.
-use Rattle.std.proofs.Common.{◌≡◌, ◌∙◌, ℕ, ◌+◌, List, subst, ap, refl, inl, inr}
+use Rattle.std.proofs.Common.{◌≡◌, ◌∙◌, ◌⊎◌, ℕ, ◌+◌, List, subst, ap, refl, inl, inr}
 use Rattle.std.specs.declared.option.Option.{Option}
 use Rattle.sat_words.specs.Literal.{Literal}
 use Rattle.sat_words.specs.declared.shared.Cref.{Cref}
 use Rattle.ring_port.specs.PortState.{PortState, lits_at}
 use Rattle.restart_plan.specs.Plan.{Restarting, noted, asked, is_due}
 use Rattle.analyze.specs.Lemma.{IsLemma}
-use Rattle.ring_run.specs.Ending.{IsRefusal}
+use Rattle.ring_run.specs.Ending.{EndsRefused, IsRefusal}
 use Rattle.ring_run.specs.Searching.{HasLent, IsAsserting, IsGlueOf}
-use Rattle.ring_run.specs.Course.{WasShared, HaltsLearning, HaltsAtConflict, LearnsTo, LearnsFrom}
+use Rattle.ring_run.specs.Course.{WasShared, CountsAlike, HaltsBehind, HaltsLearning, HaltsAtConflict, LearnsTo, LearnsFrom}
 use Rattle.ring_run.specs.declared.job.End.{End}
 use Rattle.ring_run.specs.declared.job.End.TheVariants.{Sat, Refuted, Spent, Stopped, NoHole, ProofFault, Memory}
 use Rattle.ring_run.specs.declared.ring.Ring.{Ring}
@@ -60,24 +60,32 @@ shared_alike s u between old new lits glue address b p = record {
       (subst (λ (o : ℕ). HasLent p.middle u address between.exported o new.exported new.offered) b.offered p.lent);
 }
 
+alike_bumped : (between old new : Ring) → AreSameButBumps between old → CountsAlike between new → CountsAlike old new
+alike_bumped between old new b p = record { learned = p.learned ∙ b.learned; restarts = p.restarts ∙ b.restarts; exported = p.exported ∙ b.exported; offered = p.offered ∙ b.offered }
+
 halts_bumped : (s u : PortState) (between old new : Ring) (lits : List Literal) (glue : ℕ) (end : End) → AreSameButBumps between old → HaltsLearning s u between new lits glue end → HaltsLearning s u old new lits glue end
-halts_bumped s u between old new lits glue end b (inl p) = inl (p.0, record { learned = p.1.learned ∙ b.learned; restarts = p.1.restarts ∙ b.restarts; exported = p.1.exported ∙ b.exported; offered = p.1.offered ∙ b.offered })
-halts_bumped s u between old new lits glue end b (inr p) = inr (record {
-  address = p.address;
-  between = p.between;
-  shared = shared_alike s p.between between old new lits glue p.address b p.shared;
-  deleting = p.deleting;
-  learned = p.learned ∙ ap (λ (n : ℕ). n + 1) b.learned;
-  restarts = p.restarts ∙ ap (λ (r : Restarting). asked (noted r glue)) b.restarts;
-})
+halts_bumped s u between old new lits glue end b h = (h.0, h.1, by h.2)
+  where
+    by : (EndsRefused h.0 u end × CountsAlike between new) ⊎ HaltsBehind h.0 u between new lits glue end → (EndsRefused h.0 u end × CountsAlike old new) ⊎ HaltsBehind h.0 u old new lits glue end
+    by (inl p) = inl (p.0, alike_bumped between old new b p.1)
+    by (inr p) = inr (record {
+      address = p.address;
+      between = p.between;
+      shared = shared_alike h.0 p.between between old new lits glue p.address b p.shared;
+      deleting = p.deleting;
+      learned = p.learned ∙ ap (λ (n : ℕ). n + 1) b.learned;
+      restarts = p.restarts ∙ ap (λ (r : Restarting). asked (noted r glue)) b.restarts;
+    })
 
 -- what came of a conflict whose variables were bumped
 learns_bumped : (s u : PortState) (between old new : Ring) (lits : List Literal) (back glue : ℕ) (course : Next) → AreSameButBumps between old → LearnsTo s u between new lits back glue course → LearnsTo s u old new lits back glue course
 learns_bumped s u between old new lits back glue Go b p = record {
+  drawn = p.drawn;
+  ticket = p.ticket;
   address = p.address;
   stored = p.stored;
   between = p.between;
-  shared = shared_alike s p.between between old new lits glue p.address b p.shared;
+  shared = shared_alike p.drawn p.between between old new lits glue p.address b p.shared;
   tidied = p.tidied;
   learned = p.learned ∙ ap (λ (n : ℕ). n + 1) b.learned;
   restarts = p.restarts ∙ ap (λ (r : Restarting). asked (noted r glue)) b.restarts;
@@ -88,12 +96,7 @@ learns_bumped s u between old new lits back glue Go b p = record {
 }
 learns_bumped s u between old new lits back glue (Finish (Sat a)) b p = p
 learns_bumped s u between old new lits back glue (Finish Refuted) b p = halts_bumped s u between old new lits glue Refuted b p
-learns_bumped s u between old new lits back glue (Finish Spent) b p = record {
-  address = p.address;
-  shared = shared_alike s u between old new lits glue p.address b p.shared;
-  learned = p.learned ∙ ap (λ (n : ℕ). n + 1) b.learned;
-  restarts = p.restarts ∙ ap (λ (r : Restarting). noted r glue) b.restarts;
-}
+learns_bumped s u between old new lits back glue (Finish Spent) b p = record { gone = p.gone; counts = alike_bumped between old new b p.counts }
 learns_bumped s u between old new lits back glue (Finish (Stopped x)) b p = p
 learns_bumped s u between old new lits back glue (Finish (NoHole lack)) b p = halts_bumped s u between old new lits glue (NoHole lack) b p
 learns_bumped s u between old new lits back glue (Finish ProofFault) b p = halts_bumped s u between old new lits glue ProofFault b p

@@ -1,7 +1,7 @@
 -- What a ring counts for its restarts, after one lemma more.
-use Rattle.std.proofs.Common.{◌≡◌, ◌∙◌, ℕ, ◌+◌, ◌<◌, ◌≢◌, Bool, true, false, cond, ap, sym, refl, arith}
+use Rattle.std.proofs.Common.{◌≡◌, ◌∙◌, ℕ, ◌+◌, Bool, true, false, cond, ap, sym, refl}
 use Rattle.restart_plan.specs.Plan.{Restarting, noted, asked, restarted, is_due}
-use Rattle.restart_plan.proofs.Restarting.{exact-more, exact-before}
+use Rattle.restart_plan.proofs.Restarting.{exact-more}
 use Rattle.ring_run.specs.Strategy.{IsPaced}
 
 -- the question changes neither the count nor which ring it is
@@ -19,18 +19,9 @@ asked_odd r = by (is_due r)
     by true = refl
     by false = refl
 
--- the lemma that reaches the limit is noted, and no question asked
-pub paced_last : (r : Restarting) (n glue limit : ℕ) → IsPaced r n limit → n < limit → n + 1 ≡ limit → IsPaced (noted r glue) (n + 1) limit
-paced_last r n glue limit p below is = record {
-  count = ap (λ (k : ℕ). k + 1) p.count;
-  exact = λ odd lt. absurd (omega arith);
-  last = λ odd e. exact-before r glue (p.exact odd below);
-}
-
--- each other is followed by the question
-pub paced_more : (r : Restarting) (n glue limit : ℕ) → IsPaced r n limit → n < limit → n + 1 ≢ limit → IsPaced (asked (noted r glue)) (n + 1) limit
-paced_more r n glue limit p below more = record {
+-- each lemma is followed by the question
+pub paced_more : (r : Restarting) (n glue : ℕ) → IsPaced r n → IsPaced (asked (noted r glue)) (n + 1)
+paced_more r n glue p = record {
   count = asked_count (noted r glue) ∙ ap (λ (k : ℕ). k + 1) p.count;
-  exact = λ odd lt. exact-more r glue (p.exact (sym (asked_odd (noted r glue)) ∙ odd) below);
-  last = λ odd e. absurd (more e);
+  exact = λ odd. exact-more r glue (p.exact (sym (asked_odd (noted r glue)) ∙ odd));
 }

@@ -153,7 +153,7 @@ module _ (s : PortState) (ring : Ring) (l : Literal) (p : IsResting s ring) (on 
     module _ (u : PortState) (ended : EndedLog m u) (log_after : KeepsLog m u) (port_after : IsPort u) where
       pub refuted_halts : HaltsAt s u Refuted
       refuted_halts = record {
-        ends = λ n limit below start q. empty_refutes start m u n limit below (failed_keeps start n q) ended log_after port_after;
+        ends = λ n start q. empty_refutes start m u n (failed_keeps start n q) ended log_after port_after;
         halted = tt;
         refusal = tt;
         none = refl;
@@ -168,11 +168,11 @@ module _ (s : PortState) (ring : Ring) (l : Literal) (p : IsResting s ring) (on 
   -- a call was refused
   module _ (u : PortState) (stop : PortStop) (cut : WasCutShort s u (attached ring.watches) ring.trail l stop) (port_after : IsPort u) where
     pub cut_over : EndsAt s u (end_refused stop)
-    cut_over n limit below start q = by cut.before
+    cut_over n start q = by cut.before
       where
-        by : (cut.middle ≡ s) ⊎ WroteUnit s cut.middle k UnitLine s.last → Rattle.ring_run.specs.Ending.ComesTo start u n limit (end_refused stop)
-        by (inl is) = refused_ends start cut.middle u n limit stop below (subst (λ (x : PortState). Rattle.ring_run.specs.Searching.GoesOn start x n) (sym is) q) cut.refused cut.log_after port_after
-        by (inr wrote) = refused_ends start cut.middle u n limit stop below (failed_keeps cut.middle wrote cut.log cut.port start n q) cut.refused cut.log_after port_after
+        by : (cut.middle ≡ s) ⊎ WroteUnit s cut.middle k UnitLine s.last → Rattle.ring_run.specs.Ending.ComesTo start u n (end_refused stop)
+        by (inl is) = refused_ends start cut.middle u n stop (subst (λ (x : PortState). Rattle.ring_run.specs.Searching.GoesOn start x n) (sym is) q) cut.refused cut.log_after port_after
+        by (inr wrote) = refused_ends start cut.middle u n stop (failed_keeps cut.middle wrote cut.log cut.port start n q) cut.refused cut.log_after port_after
 
     pub cut_nothing : OffersNothing s u
     cut_nothing = by cut.before

@@ -36,10 +36,11 @@ use Rattle.ring_port.specs.declared.stops.PortStop.{PortStop}
 use Rattle.ring_port.specs.declared.stops.PortStop.TheVariants.{Ended, Broken, ProofFault, NoHole, Memory}
 use Rattle.ring_run.specs.Ended.{IsTimely, Stays, IsOwn, AreNew, IsUntold, IsNewLine, AreNewLines, IsGlued, HoldsGlued, IsHeldOrSeen, HoldsRecent, Cause, stop_kind, opening_of}
 use Rattle.ring_run.specs.Searching.{Runs, GoesOn, OnlyWrote, IsNewTo, UnitsSeen, IsGlueOf, HoldsByGlue}
-use Rattle.ring_run.specs.Ending.{CountsTo, IsUnset, ComesTo, EndsAt, end_refused}
+use Rattle.ring_run.specs.Ending.{IsUnset, ComesTo, EndsAt, end_refused}
 use Rattle.ring_run.specs.declared.job.End.{End}
 use Rattle.ring_run.specs.declared.job.End.TheVariants as ring_end
 use Rattle.ring_run.proofs.Numbering.{grown_none, grown_then, reductions_still, reductions_other}
+use Rattle.ring_run.proofs.Tickets.{tickets_of, limit_same, draws_same, drawn_none, tickets_refused}
 use Rattle.ring_run.proofs.Remembering.{held_same, lits_same, unit_remembered, remembered_same}
 use Rattle.ring_run.proofs.Lately.{SeesMore, sees_same, lately_as, lately_same, lately_more}
 
@@ -52,6 +53,7 @@ stays_by s u w p q = record {
   rings = q.rings ∙ p.rings;
   depth = q.depth ∙ p.depth;
   polled = omega (arith, q.polled, p.polled);
+  limit = q.limit ∙ p.limit;
   home = q.home ∙ p.home;
   log = λ o h. q.log o (p.log o h);
 }
@@ -182,6 +184,7 @@ stays_unit s u l kind last w log = record {
   rings = ap (λ (x : PortState). x.rings) w.state;
   depth = ap (λ (x : PortState). x.depth) w.state;
   polled = omega (arith, ap (λ (x : PortState). x.polled) w.state);
+  limit = ap (λ (x : PortState). x.limit) w.state;
   home = ap (λ (x : PortState). x.home) w.state;
   log = log;
 }
@@ -231,6 +234,7 @@ unit_goes_on start s u n l p on units unseen w log port =
           (p.runs.stays.ring, subst (λ (v : ℕ). All (IsOn v) (l ∷ [])) p.runs.stays.vars (All-cons (IsOn s.vars) l [] on (All-nil (IsOn s.vars))), refl)
           (no_lemma s.ring w.number l) (λ learns. absurd (false≢true learns)) (ap (λ (x : PortState). x.given) w.state) (new_line s l w.number units p.runs.port unseen) tt (glued_same s u held)
           (lately_as s u (recent_other s u w.number (l ∷ []) UnitLine refl (ap (λ (x : PortState). x.ring) w.state) is) (λ a h. held_same s u a held) (λ k h. w.sees k ∙ or_left (has s.seen k) (same l k) h) p.runs.lately) port;
+      draws = draws_same s u n (ap tickets_of w.state) p.draws;
       going = going_more s u e is p.going refl;
       stop = ap (λ (x : PortState). x.stop) w.state ∙ p.stop;
       refused = ap (λ (x : PortState). x.refused) w.state ∙ p.refused;
@@ -256,6 +260,7 @@ pub record Unchanged (s u : PortState) : Type 0 where
   pub caught_up : u.caught_up ≡ s.caught_up
   pub puts : u.puts ≡ s.puts
   pub taken : u.taken ≡ s.taken
+  pub tickets : tickets_of u ≡ tickets_of s
   pub home : u.home ≡ s.home
   pub given : u.given ≡ s.given
   pub seen : u.seen ≡ s.seen
@@ -280,6 +285,7 @@ but_noted s refused ended output = record {
   caught_up = refl;
   puts = refl;
   taken = refl;
+  tickets = refl;
   home = refl;
   given = refl;
   seen = refl;
@@ -304,13 +310,6 @@ refused_cause s output ProofFault reason usable going = (refl, going)
 refused_cause s output (NoHole lack) reason usable going = (refl, reason.1, going)
 refused_cause s output Memory reason usable going = (usable, going)
 
-pub refused_counts : (n limit : ℕ) (stop : PortStop) → n < limit → CountsTo n limit (end_refused stop)
-refused_counts n limit Ended below = below
-refused_counts n limit Broken below = below
-refused_counts n limit ProofFault below = below
-refused_counts n limit (NoHole lack) below = below
-refused_counts n limit Memory below = below
-
 -- if no stop is known, none was set
 pub unset : (s : PortState) (end : End) → s.stop ≡ None → IsUnset s end
 unset s end none = by (stop_kind end)
@@ -323,7 +322,7 @@ unset s end none = by (stop_kind end)
 pub usable_none : (s : PortState) → s.refused ≡ None → is_usable s.refused ≡ true
 usable_none s e = ap is_usable e
 
-stays_same : (s u : PortState) → Unchanged s u → KeepsLog s u → Stays s u
+pub stays_same : (s u : PortState) → Unchanged s u → KeepsLog s u → Stays s u
 stays_same s u p log = record {
   start = p.start;
   opening = p.opening;
@@ -332,36 +331,29 @@ stays_same s u p log = record {
   rings = p.rings;
   depth = p.depth;
   polled = omega (arith, p.polled);
+  limit = limit_same s u p.tickets;
   home = p.home;
   log = log;
 }
 
 -- memory ran out in the ring
-pub out_of_memory : (start s : PortState) (n limit : ℕ) → n < limit → GoesOn start s n → ComesTo start s n limit ring_end.Memory
-out_of_memory start s n limit below p = record { runs = p.runs; cause = (usable_none s p.refused, p.going); unset = p.stop; counts = below }
+pub out_of_memory : (start s : PortState) (n : ℕ) → GoesOn start s n → ComesTo start s n ring_end.Memory
+out_of_memory start s n p = record { runs = p.runs; cause = (usable_none s p.refused, p.going); unset = p.stop; tickets = p.draws.left; drawn = drawn_none s n p.draws }
 
--- the ring has learned its limit of lemmas
-pub spent : (start s : PortState) (n limit : ℕ) → n ≡ limit → GoesOn start s n → ComesTo start s n limit ring_end.Spent
-spent start s n limit is p = record {
-  runs = p.runs;
-  cause = record { held = p.held; stop = p.stop; going = p.going; usable = usable_none s p.refused };
-  unset = tt;
-  counts = is;
-}
-
-pub refused_ends : (start s u : PortState) (n limit : ℕ) (stop : PortStop) → n < limit → GoesOn start s n → Refused s u stop → KeepsLog s u → IsPort u → ComesTo start u n limit (end_refused stop)
-refused_ends start s u n limit stop below p r log port =
+pub refused_ends : (start s u : PortState) (n : ℕ) (stop : PortStop) → GoesOn start s n → Refused s u stop → KeepsLog s u → IsPort u → ComesTo start u n (end_refused stop)
+refused_ends start s u n stop p r log port =
     let same : Unchanged s u = subst (Unchanged s) (sym r.state) (same_refused s u.output stop) in
     record {
       runs = runs_same start s u n p.runs (stays_same s u same log) same.held (sees_same s u same.seen) same.mine (lines_moved s u s.mine (stays_same s u same log) same.given same.mine p.runs.new_lines) port;
       cause = subst (λ (x : PortState). Cause x (end_refused stop)) (sym r.state) (refused_cause s u.output stop r.reason (usable_none s p.refused) p.going);
       unset = unset u (end_refused stop) (same.stop ∙ p.stop);
-      counts = refused_counts n limit stop below;
+      tickets = tickets_refused u stop (draws_same s u n same.tickets p.draws).left;
+      drawn = drawn_none u n (draws_same s u n same.tickets p.draws);
     }
 
 pub unit_over : (s u : PortState) (l : Literal) (r : Result (Unit {0}) PortStop) → UnitWritten s u l r → KeepsLog s u → IsPort u → IfErr r (λ stop. EndsAt s u (end_refused stop))
 unit_over s u l (Ok done) w log port = tt
-unit_over s u l (Err stop) w log port = λ n limit below start p. refused_ends start s u n limit stop below p w log port
+unit_over s u l (Err stop) w log port = λ n start p. refused_ends start s u n stop p w log port
 
 -- and leaves how often no stop was found
 pub refused_looks : (s u : PortState) (stop : PortStop) → Refused s u stop → u.looks ≡ s.looks
@@ -384,6 +376,7 @@ stays_learned s u lits glue c w log = record {
   rings = ap (λ (x : PortState). x.rings) w.state;
   depth = ap (λ (x : PortState). x.depth) w.state;
   polled = omega (arith, ap (λ (x : PortState). x.polled) w.state);
+  limit = ap (λ (x : PortState). x.limit) w.state;
   home = ap (λ (x : PortState). x.home) w.state;
   log = log;
 }
@@ -444,42 +437,58 @@ learned_by_glue s u steps lits glue (Some c) w counts h there =
     ]
 learned_by_glue s u steps lits glue None w counts h there = inl (subst (λ (hs : List Holding). Contains hs h) (ap (λ (x : PortState). x.held) w.wrote.state) there)
 
--- the entry of a lemma goes on with one more
-learned_goes_on : (start s u : PortState) (n number : ℕ) (lits : List Literal) → GoesOn start s n → Stays s u → IsClause s.vars lits → IsNewTo s lits → 1 ≤ length lits
+-- nothing has ended a run, and a ticket is in hand, with which a lemma may be learned
+pub record IsReady (start s : PortState) (count : ℕ) : Type 0 where
+  pub runs : Runs start s count
+  pub ticket : s.ticket ≡ true
+  pub left : s.found ≤ s.limit
+  pub drawn : count < s.found
+  pub going : list_any is_empty (added s.mine) ≡ false
+  pub stop : s.stop ≡ None
+  pub refused : s.refused ≡ None
+  pub held : HoldsStart s
+
+-- the entry of a lemma goes on with one more, and uses the ticket up
+learned_goes_on : (start s u : PortState) (n number : ℕ) (lits : List Literal) → IsReady start s n → tickets_of u ≡ (false, s.found, s.limit) → Stays s u → IsClause s.vars lits → IsNewTo s lits → 1 ≤ length lits
     → u.mine ≡ s.mine ++ entry_of s number lits Learn ∷ [] → u.given ≡ s.given → AddsGlued s u → SeesMore s u → IsHeldOrSeen u lits → u.stop ≡ s.stop → u.refused ≡ s.refused → KeepsHeld s u → IsPort u → GoesOn start u (n + 1)
-learned_goes_on start s u n number lits p stays clause fresh some is given glued more own stop refused kept port =
+learned_goes_on start s u n number lits p used stays clause fresh some is given glued more own stop refused kept port =
     let e : Entry = entry_of s number lits Learn in
     let x : Addition = record { ring = s.ring; number = number; lits = lits; kind = Learn } in
     record {
       runs = runs_adds start s u n (n + 1) e p.runs stays kept is
           (p.runs.stays.ring, subst (λ (v : ℕ). All (IsOn v) lits) p.runs.stays.vars clause.on, some)
           (omega (arith, one_learned s.ring (record { ring = s.ring; number = number; lits = lits; kind = Learn }) refl refl)) (λ learns. fresh.unlisted) given (λ is_line. absurd (false≢true is_line)) tt glued (lately_more s u x stays.ring is kept more own p.runs.lately) port;
+      draws = (
+          let none : u.ticket ≡ false = ap (λ (t : Bool × ℕ × ℕ). t.0) used in
+          let found : u.found ≡ s.found = ap (λ (t : Bool × ℕ × ℕ). t.1) used in
+          let limit : u.limit ≡ s.limit = ap (λ (t : Bool × ℕ × ℕ). t.2) used in
+          record { none = none; left = omega (arith, found, limit, p.left); within = omega (arith, found, p.drawn) });
       going = going_more s u e is p.going (some_literal lits some);
       stop = stop ∙ p.stop;
       refused = refused ∙ p.refused;
       held = starts_kept s u stays.start kept p.held;
     }
 
-pub clause_goes_on : (start s u : PortState) (n glue : ℕ) (steps : List TrailStep) (lits : List Literal) (c : Cref) → GoesOn start s n → IsClause s.vars lits → IsNewTo s lits → IsGlueOf steps lits glue → LearnedClause s u lits glue c → KeepsHeld s u → KeepsLog s u → IsPort u
+pub clause_goes_on : (start s u : PortState) (n glue : ℕ) (steps : List TrailStep) (lits : List Literal) (c : Cref) → IsReady start s n → IsClause s.vars lits → IsNewTo s lits → IsGlueOf steps lits glue → LearnedClause s u lits glue c → KeepsHeld s u → KeepsLog s u → IsPort u
     → GoesOn start u (n + 1)
 clause_goes_on start s u n glue steps lits c p clause fresh counts w kept log port =
-    learned_goes_on start s u n w.number lits p (stays_learned s u lits glue c w log) clause fresh (omega (arith, w.long))
+    learned_goes_on start s u n w.number lits p (ap tickets_of w.state) (stays_learned s u lits glue c w log) clause fresh (omega (arith, w.long))
     (ap (λ (x : PortState). x.mine) w.state) (ap (λ (x : PortState). x.given) w.state) (clause_glued s u steps lits glue c w counts) (sees_same s u (ap (λ (x : PortState). x.seen) w.state))
     (inl (record { address = c.address; there = ap (option_map (λ (h : Holding). h.lits)) w.there })) (ap (λ (x : PortState). x.stop) w.state) (ap (λ (x : PortState). x.refused) w.state) kept port
 
-pub unit_learned_goes_on : (start s u : PortState) (n : ℕ) (lits : List Literal) → GoesOn start s n → IsClause s.vars lits → IsNewTo s lits → LearnedUnit s u lits → KeepsHeld s u → KeepsLog s u → IsPort u
+pub unit_learned_goes_on : (start s u : PortState) (n : ℕ) (lits : List Literal) → IsReady start s n → IsClause s.vars lits → IsNewTo s lits → LearnedUnit s u lits → KeepsHeld s u → KeepsLog s u → IsPort u
     → GoesOn start u (n + 1)
 unit_learned_goes_on start s u n lits p clause fresh w kept log port =
     let wrote = w.wrote in
-    learned_goes_on start s u n wrote.number lits p (stays_unit s u w.lit Learn None wrote log) clause fresh (omega (arith, ap length w.unit))
+    learned_goes_on start s u n wrote.number lits p (ap tickets_of wrote.state) (stays_unit s u w.lit Learn None wrote log) clause fresh (omega (arith, ap length w.unit))
     (ap (λ (x : PortState). x.mine) wrote.state ∙ ap (λ (c : List Literal). s.mine ++ entry_of s wrote.number c Learn ∷ []) (sym w.unit))
     (ap (λ (x : PortState). x.given) wrote.state) (glued_same s u (ap (λ (x : PortState). x.held) wrote.state))
     (λ k h. wrote.sees k ∙ or_left (has s.seen k) (same w.lit k) h) (inr (record { lit = w.lit; unit = w.unit; seen = wrote.sees w.lit ∙ or_right (has s.seen w.lit) (same w.lit w.lit) (same-refl w.lit) }))
     (ap (λ (x : PortState). x.stop) wrote.state) (ap (λ (x : PortState). x.refused) wrote.state) kept port
 
 -- the empty clause
-pub empty_refutes : (start s u : PortState) (n limit : ℕ) → n < limit → GoesOn start s n → EndedLog s u → KeepsLog s u → IsPort u → ComesTo start u n limit ring_end.Refuted
-empty_refutes start s u n limit below p w log port =
+pub empty_refutes : (start s u : PortState) (n : ℕ) → GoesOn start s n → EndedLog s u → KeepsLog s u → IsPort u → ComesTo start u n ring_end.Refuted
+empty_refutes start s u n p w log port =
     let e : Entry = entry_of s w.number [] Derive in
     let stays : Stays s u = record {
       start = ap (λ (x : PortState). x.start) w.state;
@@ -489,6 +498,7 @@ empty_refutes start s u n limit below p w log port =
       rings = ap (λ (x : PortState). x.rings) w.state;
       depth = ap (λ (x : PortState). x.depth) w.state;
       polled = omega (arith, ap (λ (x : PortState). x.polled) w.state);
+      limit = ap (λ (x : PortState). x.limit) w.state;
       home = ap (λ (x : PortState). x.home) w.state;
       log = log;
     } in
@@ -500,7 +510,8 @@ empty_refutes start s u n limit below p w log port =
           (lately_as s u (recent_other s u w.number [] Derive refl (ap (λ (x : PortState). x.ring) w.state) (ap (λ (x : PortState). x.mine) w.state)) (λ a h. held_same s u a (ap (λ (x : PortState). x.held) w.state)) (sees_same s u (ap (λ (x : PortState). x.seen) w.state)) p.runs.lately) port;
       cause = (ap (λ (x : PortState). x.ended) w.state, usable_none u (ap (λ (x : PortState). x.refused) w.state ∙ p.refused));
       unset = ap (λ (x : PortState). x.stop) w.state ∙ p.stop;
-      counts = below;
+      tickets = (draws_same s u n (ap tickets_of w.state) p.draws).left;
+      drawn = drawn_none u n (draws_same s u n (ap tickets_of w.state) p.draws);
     }
 
 -- What was learned lately, and lines
@@ -519,7 +530,7 @@ wrote_none s = record {
   recent = refl;
   reduced = refl;
   grown = grown_none s s refl;
-  stays = record { start = refl; opening = refl; vars = refl; ring = refl; rings = refl; depth = refl; polled = omega arith; home = refl; log = λ o h. h };
+  stays = record { start = refl; opening = refl; vars = refl; ring = refl; rings = refl; depth = refl; polled = omega arith; limit = refl; home = refl; log = λ o h. h };
   taken = refl;
   held = refl;
   own = λ cs p. p;
@@ -556,9 +567,9 @@ wrote_unit s u l w log = record {
   more = λ k h. w.sees k ∙ or_left (has s.seen k) (same l k) h;
 }
 
--- a look that found no stop, or no other unit
-pub counted_wrote : (s u : PortState) (k n : ℕ) → u ≡ record s { looks = k; caught_up = n } → KeepsLog s u → OnlyWrote s u
-counted_wrote s u k n is log = record {
+-- what is counted and the tickets alone change
+pub marked_wrote : (s u : PortState) (k n : ℕ) (ticket : Bool) (found : ℕ) → u ≡ record s { looks = k; caught_up = n; ticket = ticket; found = found } → KeepsLog s u → OnlyWrote s u
+marked_wrote s u k n ticket found is log = record {
   recent = recent_still s u (ap (λ (x : PortState). x.ring) is) (ap (λ (x : PortState). x.mine) is);
   reduced = reductions_still s u (ap (λ (x : PortState). x.ring) is) (ap (λ (x : PortState). x.mine) is);
   grown = grown_none s u (ap (λ (x : PortState). x.mine) is);
@@ -570,6 +581,7 @@ counted_wrote s u k n is log = record {
     rings = ap (λ (x : PortState). x.rings) is;
     depth = ap (λ (x : PortState). x.depth) is;
     polled = omega (arith, ap (λ (x : PortState). x.polled) is);
+    limit = ap (λ (x : PortState). x.limit) is;
     home = ap (λ (x : PortState). x.home) is;
     log = log;
   };
@@ -582,6 +594,10 @@ counted_wrote s u k n is log = record {
   more = λ l h. ap (λ (ls : List Literal). has ls l) (ap (λ (x : PortState). x.seen) is) ∙ h;
 }
 
+-- a look that found no stop, or no other unit
+pub counted_wrote : (s u : PortState) (k n : ℕ) → u ≡ record s { looks = k; caught_up = n } → KeepsLog s u → OnlyWrote s u
+counted_wrote s u k n is log = marked_wrote s u k n s.ticket s.found is log
+
 pub looked_wrote : (s u : PortState) (k : ℕ) → u ≡ record s { looks = k } → KeepsLog s u → OnlyWrote s u
 looked_wrote s u k is log = counted_wrote s u k s.caught_up is log
 
@@ -591,6 +607,7 @@ counted_goes_on start s u n k m p is log port =
     let mine : u.mine ≡ s.mine = ap (λ (x : PortState). x.mine) is in
     record {
       runs = runs_same start s u n p.runs w.stays w.held w.more mine (lines_moved s u s.mine w.stays (ap (λ (x : PortState). x.given) is) mine p.runs.new_lines) port;
+      draws = draws_same s u n (ap tickets_of is) p.draws;
       going = ap (λ (J : List Entry). list_any is_empty (added J)) mine ∙ p.going;
       stop = w.stop ∙ p.stop;
       refused = w.refused ∙ p.refused;
@@ -611,17 +628,19 @@ runs_stopped start s u n stop p is log port =
       rings = ap (λ (x : PortState). x.rings) is;
       depth = ap (λ (x : PortState). x.depth) is;
       polled = omega (arith, ap (λ (x : PortState). x.polled) is);
+      limit = ap (λ (x : PortState). x.limit) is;
       home = ap (λ (x : PortState). x.home) is;
       log = log;
     } in
     runs_same start s u n p stays (ap (λ (x : PortState). x.held) is) (sees_same s u (ap (λ (x : PortState). x.seen) is)) (ap (λ (x : PortState). x.mine) is) (lines_moved s u s.mine stays (ap (λ (x : PortState). x.given) is) (ap (λ (x : PortState). x.mine) is) p.new_lines) port
 
-pub stop_seen : (start s u : PortState) (n limit : ℕ) (x : Stop) → n < limit → GoesOn start s n → Looked s u (Some x) → KeepsLog s u → IsPort u → ComesTo start u n limit (ring_end.Stopped x)
-stop_seen start s u n limit x below p looked log port =
+pub stop_seen : (start s u : PortState) (n : ℕ) (x : Stop) → GoesOn start s n → Looked s u (Some x) → KeepsLog s u → IsPort u → ComesTo start u n (ring_end.Stopped x)
+stop_seen start s u n x p looked log port =
     let others : x.ring ≢ s.ring = subst (λ (o : Option Stop). MatchOption o (x.ring ≢ s.ring) (λ y. x ≡ y)) p.stop looked.0 in
     record {
       runs = runs_stopped start s u n (Some x) p.runs looked.1 log port;
       cause = (ap (λ (y : PortState). y.stop) looked.1, λ e. others (e ∙ ap (λ (y : PortState). y.ring) looked.1));
       unset = tt;
-      counts = below;
+      tickets = (draws_same s u n (ap tickets_of looked.1) p.draws).left;
+      drawn = drawn_none u n (draws_same s u n (ap tickets_of looked.1) p.draws);
     }

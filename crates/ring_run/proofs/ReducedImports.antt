@@ -70,9 +70,9 @@ module _ (s u : PortState) (ring : Ring) (listed : HasLemmas s ring) (rests : Is
   }
 
   pub given_up_over : (stop : PortStop) → WasCutShort s u ring.trail.steps imports stop → KeepsLog s u → IsPort u → EndsAt s u (end_refused stop)
-  given_up_over stop w log port n limit below start p =
-      subst (λ (x : PortStop). ComesTo start u n limit (end_refused x)) (sym w.memory)
-      (out_of_memory start u n limit below (dropped_goes_on s u w.dropped imports w.port w.among start_apart rests.lately start n p log port))
+  given_up_over stop w log port n start p =
+      subst (λ (x : PortStop). ComesTo start u n (end_refused x)) (sym w.memory)
+      (out_of_memory start u n (dropped_goes_on s u w.dropped imports w.port w.among start_apart rests.lately start n p log port))
 
   pub given_up_nothing : (stop : PortStop) → WasCutShort s u ring.trail.steps imports stop → OffersNothing s u
   given_up_nothing stop w = dropped_nothing s u w.dropped w.port

@@ -51,6 +51,7 @@ use Rattle.ring_run.proofs.Progress.{runs_adds, going_more, stays_by, starts_kep
 use Rattle.ring_run.proofs.Telling.{told_same}
 use Rattle.ring_run.proofs.Turning.{held_by_same, clauses_same}
 use Rattle.ring_run.proofs.Numbering.{ordered_kept, ordered_filter, glue_kept, grown_none, reductions_reduced}
+use Rattle.ring_run.proofs.Tickets.{tickets_of, draws_same}
 
 -- The Reduce entry
 
@@ -93,6 +94,7 @@ module _ (s u : PortState) (w : NotedReduce s u) where
     rings = ap (λ (x : PortState). x.rings) w.state;
     depth = ap (λ (x : PortState). x.depth) w.state;
     polled = omega (arith, ap (λ (x : PortState). x.polled) w.state);
+    limit = ap (λ (x : PortState). x.limit) w.state;
     home = ap (λ (x : PortState). x.home) w.state;
     log = log;
   }
@@ -107,6 +109,7 @@ module _ (s u : PortState) (w : NotedReduce s u) where
       record {
         runs = runs_adds start s u n n (Reduce s.ring) p.runs stays (λ a h. held_same s u a noted_held) noted_mine p.runs.stays.ring (omega (arith, none)) tt
             (ap (λ (x : PortState). x.given) w.state) tt may (glued_same s u noted_held) (lately_none u noted_lately) port;
+        draws = draws_same s u n (ap tickets_of w.state) p.draws;
         going = going_more s u (Reduce s.ring) noted_mine p.going refl;
         stop = ap (λ (x : PortState). x.stop) w.state ∙ p.stop;
         refused = ap (λ (x : PortState). x.refused) w.state ∙ p.refused;
@@ -155,6 +158,7 @@ module _ (s u : PortState) (w : NotedReduce s u) where
     ring = ap (λ (x : PortState). x.ring) w.state;
     rings = ap (λ (x : PortState). x.rings) w.state;
     depth = ap (λ (x : PortState). x.depth) w.state;
+    found = ap (λ (x : PortState). x.found) w.state;
     lemmas = ap (λ (x : PortState). learned x.ring x.mine) w.state
         ∙ ap (λ (xs : List Addition). map (λ (x : Addition). x.lits) (filter (λ (x : Addition). (x.ring == s.ring) && is_learn x.kind) xs)) (same_additions s.ring s.mine);
   }
@@ -217,6 +221,7 @@ module _ (s u : PortState) (dropped lemmas : List Cref) (gone : DroppedAll s u d
     rings = ap (λ (x : PortState). x.rings) gone.state;
     depth = ap (λ (x : PortState). x.depth) gone.state;
     polled = omega (arith, ap (λ (x : PortState). x.polled) gone.state);
+    limit = ap (λ (x : PortState). x.limit) gone.state;
     home = ap (λ (x : PortState). x.home) gone.state;
     log = log;
   }
@@ -238,6 +243,7 @@ module _ (s u : PortState) (dropped lemmas : List Cref) (gone : DroppedAll s u d
           lately = lately_none u (ap (λ (x : PortState). recent x.ring x.mine) gone.state ∙ none);
           port = port;
         };
+        draws = draws_same s u n (ap tickets_of gone.state) p.draws;
         going = ap (λ (J : List Entry). list_any is_empty (added J)) mine ∙ p.going;
         stop = ap (λ (x : PortState). x.stop) gone.state ∙ p.stop;
         refused = ap (λ (x : PortState). x.refused) gone.state ∙ p.refused;
@@ -299,6 +305,7 @@ dropped_nothing s u dropped gone = record {
   ring = ap (λ (x : PortState). x.ring) gone.state;
   rings = ap (λ (x : PortState). x.rings) gone.state;
   depth = ap (λ (x : PortState). x.depth) gone.state;
+  found = ap (λ (x : PortState). x.found) gone.state;
   lemmas = ap (λ (x : PortState). learned x.ring x.mine) gone.state;
 }
 
@@ -326,10 +333,10 @@ module _ (s m u : PortState) (ring : Ring) (noted : NotedReduce s m) (listed : H
   apart_then : (h : Holding) (c : Cref) → Contains m.start h → Contains lemmas c → c.address ≢ h.address
   apart_then h c there member = listed.apart h c (subst (λ (hs : List Holding). Contains hs h) (noted_start s m noted) there) member
 
-  pub cut_short_over : (stop : PortStop) → WasCutShort m u ring.trail.steps lemmas stop → KeepsLog m u → IsPort u → (start : PortState) (n limit : ℕ) → n < limit → GoesOn start m n → ComesTo start u n limit (end_refused stop)
-  cut_short_over stop w log port start n limit below p =
-      subst (λ (x : PortStop). ComesTo start u n limit (end_refused x)) (sym w.memory)
-      (out_of_memory start u n limit below (dropped_goes_on m u w.dropped lemmas w.port w.among apart_then (noted_lately s m noted) start n p log port))
+  pub cut_short_over : (stop : PortStop) → WasCutShort m u ring.trail.steps lemmas stop → KeepsLog m u → IsPort u → (start : PortState) (n : ℕ) → GoesOn start m n → ComesTo start u n (end_refused stop)
+  cut_short_over stop w log port start n p =
+      subst (λ (x : PortStop). ComesTo start u n (end_refused x)) (sym w.memory)
+      (out_of_memory start u n (dropped_goes_on m u w.dropped lemmas w.port w.among apart_then (noted_lately s m noted) start n p log port))
 
   module _ (v w : WatchData) (steps : List TrailStep) (left : List Cref) (done : WasReduced m u v w steps lemmas left) where
     among : All (Contains lemmas) done.dropped

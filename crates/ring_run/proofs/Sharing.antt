@@ -1,15 +1,16 @@
 -- A ring that has learned, counted and offered a lemma, and then asked whether a restart is due.
-use Rattle.std.proofs.Common.{◌≡◌, ◌∙◌, ℕ, ◌+◌, ◌<◌, ◌≤◌, true, false, List, sym, subst, ap, arith, inl, inr, Some, None, Ok, IsSome, refl}
+use Rattle.std.proofs.Common.{◌≡◌, ◌∙◌, ℕ, ◌+◌, ◌≤◌, true, false, List, sym, subst, ap, arith, inl, inr, Some, None, Ok, IsSome, refl}
 use Rattle.std.specs.Prelude.{IfSome, if◌then◌else◌}
 use Rattle.std.specs.declared.option.Option.{Option}
 use Rattle.sat_words.specs.Literal.{Literal}
 use Rattle.sat_words.specs.declared.shared.Cref.{Cref}
 use Rattle.ring_port.specs.PortState.{PortState, IsPort, held_at}
 use Rattle.ring_port.specs.Port.{Learned}
+use Rattle.ring_port.specs.Drawing.{HasDrawn}
+use Rattle.ring_port.specs.declared.draw.Drawn.TheVariants.{Ticket}
 use Rattle.ring_trail.specs.declared.step.TrailStep.{TrailStep}
 use Rattle.ring_trail.specs.TrailData.{TrailData}
 use Rattle.restart_plan.specs.Plan.{Restarting, noted, asked, is_due}
-use Rattle.restart_plan.proofs.Restarting.{exact-more}
 use Rattle.ring_run.specs.Ended.{HasImported, IsInTime, polls_of}
 use Rattle.ring_run.specs.Strategy.{IsPaced}
 use Rattle.ring_run.specs.Searching.{GoesOn, Stands, HasLent, HoldsByGlue, IsAsserting, IsGlueOf}
@@ -17,15 +18,15 @@ use Rattle.ring_run.specs.Course.{WasShared, InSearch, HasLemmas, HasLeft, HasLe
 use Rattle.ring_run.specs.Learning.{HasShared, HasAsked, HasLeftTidy, WasFollowed}
 use Rattle.ring_run.specs.declared.course.Next.{Next}
 use Rattle.ring_run.specs.declared.ring.Ring.{Ring}
-use Rattle.ring_run.proofs.InTime.{in_time_same, in_time_more, in_time_wrote, in_time_learned, asked_since}
+use Rattle.ring_run.proofs.InTime.{in_time_same, in_time_more, in_time_wrote, in_time_learned, asked_since, sums_exact}
 use Rattle.ring_run.proofs.Learning.{learned_any, left_search, left_level}
 use Rattle.ring_run.proofs.Lending.{lent_held, lent_goes_on, lent_search, left_before, left_alike, stored_at, lent_glue, offering_learned}
 use Rattle.ring_run.proofs.Listing.{left_lists, listed_learned}
 use Rattle.ring_run.proofs.Numbering.{grown_none, grown_then, reductions_still}
 use Rattle.ring_run.proofs.Offering.{OnlyLent, only_lent}
-use Rattle.ring_run.proofs.Pacing.{paced_more, asked_odd}
+use Rattle.ring_run.proofs.Pacing.{paced_more}
 use Rattle.ring_run.proofs.Polling.{SamePolls, same_then, same_nothing, same_learned, same_lent, polls_as, polled_whole, asked_imports, asked_more, place_moved}
-use Rattle.ring_run.proofs.Progress.{learned_looks, learned_by_glue, recent_still, glue_bounds}
+use Rattle.ring_run.proofs.Progress.{IsReady, learned_looks, learned_by_glue, recent_still, glue_bounds}
 use Rattle.ring_run.proofs.Remembering.{HoldsAlike, held_same}
 use Rattle.ring_run.proofs.Rounds.{imports_as, imports_whole}
 use Rattle.ring_run.proofs.Tidying.{tidied_search}
@@ -34,6 +35,10 @@ use Rattle.ring_run.proofs.Tidying.{tidied_search}
 learned_vars : (s u : PortState) (lits : List Literal) (glue : ℕ) (address : Option Cref) → Learned s u lits glue (Ok address) → u.vars ≡ s.vars
 learned_vars s u lits glue (Some c) w = ap (λ (x : PortState). x.vars) w.state
 learned_vars s u lits glue None w = ap (λ (x : PortState). x.vars) w.wrote.state
+
+learned_found : (s u : PortState) (lits : List Literal) (glue : ℕ) (address : Option Cref) → Learned s u lits glue (Ok address) → u.found ≡ s.found
+learned_found s u lits glue (Some c) w = ap (λ (x : PortState). x.found) w.state
+learned_found s u lits glue None w = ap (λ (x : PortState). x.found) w.wrote.state
 
 learned_refused : (s u : PortState) (lits : List Literal) (glue : ℕ) (address : Option Cref) → Learned s u lits glue (Ok address) → u.refused ≡ s.refused
 learned_refused s u lits glue (Some c) w = ap (λ (x : PortState). x.refused) w.state
@@ -64,10 +69,13 @@ module _ (s u : PortState) (old new : Ring) (lits : List Literal) (glue : ℕ) (
   pub shared_looks : u.looks ≡ s.looks
   shared_looks = ap (λ (x : PortState). x.looks) shared_lent.state ∙ learned_looks s middle lits glue address h.shared.learned
 
+  pub shared_found : u.found ≡ s.found
+  shared_found = ap (λ (x : PortState). x.found) shared_lent.state ∙ learned_found s middle lits glue address h.shared.learned
+
   pub shared_polls : SamePolls s u
   shared_polls = same_then s middle u (same_learned s middle lits glue address h.shared.learned) (same_lent middle u shared_lent)
 
-  pub shared_goes_on : (start : PortState) (t : TrailData) (back : ℕ) → GoesOn start s old.learned → Stands s t → IsAsserting s t lits back → IsGlueOf t.steps lits glue → GoesOn start u (old.learned + 1)
+  pub shared_goes_on : (start : PortState) (t : TrailData) (back : ℕ) → IsReady start s old.learned → Stands s t → IsAsserting s t lits back → IsGlueOf t.steps lits glue → GoesOn start u (old.learned + 1)
   shared_goes_on start t back p stands lemma counts =
       lent_goes_on start middle u (old.learned + 1) (learned_any start s middle old.learned glue t lits back address p stands lemma counts h.shared.learned h.kept h.log h.port) shared_lent h.log_after h.port_after
 
@@ -89,8 +97,8 @@ left_low u old new lits back address (inl at) due =
     omega (arith, level, none)
 left_low u old new lits back address (inr at) due = ap (λ (t : TrailData). t.level) at.2.went.is
 
--- after a lemma that isn't the last it was asked whether a restart is due
-module _ (s u : PortState) (old new : Ring) (lits : List Literal) (back glue limit : ℕ) (course : Next) (p : WasFollowed s u old new lits back glue limit course) where
+-- after a lemma it was asked whether a restart is due
+module _ (s u : PortState) (old new : Ring) (lits : List Literal) (back glue : ℕ) (course : Next) (p : WasFollowed s u old new lits back glue course) where
   abbrev v : PortState
   v = p.between
 
@@ -129,14 +137,16 @@ module _ (s u : PortState) (old new : Ring) (lits : List Literal) (back glue lim
   pub asked_looks : u.looks ≡ s.looks
   asked_looks = a.looks ∙ shared_looks s v old mid lits glue address h
 
-  pub asked_paced : IsPaced old.restarts old.learned limit → old.learned < limit → IsPaced new.restarts new.learned limit
-  asked_paced paced below =
-      subst (λ (n : ℕ). IsPaced new.restarts n limit) (sym asked_learned)
-      (subst (λ (r : Restarting). IsPaced r (old.learned + 1) limit) (sym asked_restarts)
-      (paced_more old.restarts old.learned glue limit paced below (λ e. p.more (shared_count s v old mid lits glue address h ∙ e))))
+  pub asked_found : u.found ≡ s.found
+  asked_found = a.nothing.found ∙ shared_found s v old mid lits glue address h
 
-  pub asked_sums : IsPaced old.restarts old.learned limit → old.learned < limit → SumsUp new.restarts
-  asked_sums paced below = subst SumsUp (sym asked_restarts) (λ odd. (exact-more old.restarts glue (paced.exact (sym (asked_odd (noted old.restarts glue)) ∙ odd) below)).all)
+  pub asked_paced : IsPaced old.restarts old.learned → IsPaced new.restarts new.learned
+  asked_paced paced =
+      subst (λ (n : ℕ). IsPaced new.restarts n) (sym asked_learned)
+      (subst (λ (r : Restarting). IsPaced r (old.learned + 1)) (sym asked_restarts) (paced_more old.restarts old.learned glue paced))
+
+  pub asked_sums : IsPaced old.restarts old.learned → SumsUp new.restarts
+  asked_sums paced = sums_exact new.restarts new.learned (asked_paced paced)
 
   pub asked_same : SamePolls s u
   asked_same = same_then s v u (shared_polls s v old mid lits glue address h) (same_nothing v u a.nothing)
@@ -187,7 +197,7 @@ module _ (s u : PortState) (old new : Ring) (lits : List Literal) (back glue lim
         lent h.log_after h.port_after)
         leaves.wrote leaves.seen port
 
-    pub asked_goes_on : (start : PortState) → GoesOn start s old.learned → Stands s old.trail → IsAsserting s old.trail lits back → IsGlueOf old.trail.steps lits glue → GoesOn start u new.learned
+    pub asked_goes_on : (start : PortState) → IsReady start s old.learned → Stands s old.trail → IsAsserting s old.trail lits back → IsGlueOf old.trail.steps lits glue → GoesOn start u new.learned
     asked_goes_on start q stands lemma counts = subst (GoesOn start u) (sym asked_learned)
         (leaves.keeps start (old.learned + 1) (shared_goes_on s v old mid lits glue address h start old.trail back q stands lemma counts))
 
@@ -217,8 +227,10 @@ module _ (s u : PortState) (old new : Ring) (lits : List Literal) (back glue lim
         h.kept alike (grown_then m v u (grown_none m v mine) wrote.grown) (wrote.reduced ∙ reductions_still m v ring mine)
         (λ long. (glue_bounds old.trail.steps lits glue counts long).0) q
 
-    pub asked_has_learned : HasLearned s u old new lits back glue
-    asked_has_learned = record {
+    pub asked_has_learned : (before : PortState) → HasDrawn before s Ticket → HasLearned before u old new lits back glue
+    asked_has_learned before ticket = record {
+      drawn = s;
+      ticket = ticket;
       address = address;
       between = v;
       shared = asked_shared;

@@ -28,11 +28,12 @@ use Rattle.vivify.proofs.Shortening.{part_clause}
 use Rattle.ring_run.specs.Ended.{Stays, IsGlued, Cause, reductions}
 use Rattle.ring_run.specs.Searching.{GoesOn, KeepsOn, Runs, UnitsSeen, OffersNothing}
 use Rattle.ring_run.specs.Ending.{EndsAt, end_refused}
-use Rattle.ring_run.proofs.Progress.{Unchanged, AddsGlued, same_refused, runs_entry, new_line, not_learned, none_learned, recent_other, some_literal, going_more, refused_cause, refused_counts, refused_ends, unset, usable_none}
+use Rattle.ring_run.proofs.Progress.{Unchanged, AddsGlued, same_refused, runs_entry, new_line, not_learned, none_learned, recent_other, some_literal, going_more, refused_cause, refused_ends, unset, usable_none}
 use Rattle.ring_run.proofs.Lately.{lately_none}
 use Rattle.ring_run.proofs.Reducing.{less_one}
 use Rattle.rup_model.proofs.Additions.{learned-append}
 use Rattle.std.proofs.Common.{append-nil}
+use Rattle.ring_run.proofs.Tickets.{tickets_of, found_same, limit_same, draws_same, drawn_none, tickets_refused}
 
 -- An entry, and then a clause that is dropped, or a refusal
 
@@ -50,6 +51,7 @@ pub record Behind (s u : PortState) (e : Entry) : Type 0 where
   pub polls_after : u.polls_after ≡ s.polls_after
   pub caught_up : min s.caught_up (2 ^ 64 - 1) ≤ u.caught_up
   pub taken : u.taken ≡ s.taken
+  pub tickets : tickets_of u ≡ tickets_of s
   pub home : u.home ≡ s.home
   pub given : u.given ≡ s.given
   pub looks : u.looks ≡ s.looks
@@ -70,6 +72,7 @@ added_behind s m lits glue d w = record {
   polls_after = ap (λ (x : PortState). x.polls_after) w.state;
   caught_up = (let same = ap (λ (x : PortState). x.caught_up) w.state in omega (arith, same));
   taken = ap (λ (x : PortState). x.taken) w.state;
+  tickets = ap tickets_of w.state;
   home = ap (λ (x : PortState). x.home) w.state;
   given = ap (λ (x : PortState). x.given) w.state;
   looks = ap (λ (x : PortState). x.looks) w.state;
@@ -91,6 +94,7 @@ unit_behind s m l last w = record {
   polls_after = ap (λ (x : PortState). x.polls_after) w.state;
   caught_up = omega (arith, w.looked);
   taken = ap (λ (x : PortState). x.taken) w.state;
+  tickets = ap tickets_of w.state;
   home = ap (λ (x : PortState). x.home) w.state;
   given = ap (λ (x : PortState). x.given) w.state;
   looks = ap (λ (x : PortState). x.looks) w.state;
@@ -112,6 +116,7 @@ dropped_behind s m u e a b w = record {
   polls_after = ap (λ (x : PortState). x.polls_after) w.state ∙ b.polls_after;
   caught_up = (let same = ap (λ (x : PortState). x.caught_up) w.state in omega (arith, same, b.caught_up));
   taken = ap (λ (x : PortState). x.taken) w.state ∙ b.taken;
+  tickets = ap tickets_of w.state ∙ b.tickets;
   home = ap (λ (x : PortState). x.home) w.state ∙ b.home;
   given = ap (λ (x : PortState). x.given) w.state ∙ b.given;
   looks = ap (λ (x : PortState). x.looks) w.state ∙ b.looks;
@@ -133,6 +138,7 @@ same_behind s m u e b q = record {
   polls_after = q.polls_after ∙ b.polls_after;
   caught_up = omega (arith, b.caught_up, q.caught_up);
   taken = q.taken ∙ b.taken;
+  tickets = q.tickets ∙ b.tickets;
   home = q.home ∙ b.home;
   given = q.given ∙ b.given;
   looks = q.looks ∙ b.looks;
@@ -149,6 +155,7 @@ behind_stays s u e b log = record {
   rings = b.rings;
   depth = b.depth;
   polled = omega (arith, b.polled);
+  limit = limit_same s u b.tickets;
   home = b.home;
   log = log;
 }
@@ -163,6 +170,7 @@ behind_nothing s u x b other = record {
   ring = b.ring;
   rings = b.rings;
   depth = b.depth;
+  found = found_same s u b.tickets;
   lemmas = ap (λ (r : ℕ). learned r u.mine) b.ring ∙ ap (learned s.ring) b.mine ∙ learned-append s.ring s.mine (Rattle.rup_model.specs.declared.journal.Entry.TheVariants.Add x ∷ [])
       ∙ ap (λ (cs : List (List Literal)). learned s.ring s.mine ++ cs) (none_learned s.ring x other) ∙ append-nil (learned s.ring s.mine);
 }
@@ -231,6 +239,7 @@ module _ (s u : PortState) (v : WatchData) (steps : List TrailStep) (c : Cref) (
       record {
         runs = derived_runs start s u n z.derived.number left p b log starts (left_clause s v steps c port held) z.derived.long time
             (λ h there. derived_glued s z.middle left (glue_at s c.address) d z.derived some h (dropped_less z.middle u c.address z.dropped h there)) port_then;
+        draws = draws_same s u n b.tickets p.draws;
         going = going_more s u e b.mine p.going (some_literal left (omega (arith, z.derived.long)));
         stop = b.stop ∙ p.stop;
         refused = ap (λ (x : PortState). x.refused) z.dropped.state ∙ ap (λ (x : PortState). x.refused) z.derived.state ∙ p.refused;
@@ -254,6 +263,7 @@ module _ (s u : PortState) (v : WatchData) (steps : List TrailStep) (c : Cref) (
       record {
         runs = unit_runs start s u n z.wrote.number l p b log starts (unit_on l z.left) units unseen time.1
             (λ h there. unit_glued z.middle l z.wrote h (dropped_less z.middle u c.address z.dropped h there)) port_then;
+        draws = draws_same s u n b.tickets p.draws;
         going = going_more s u e b.mine p.going refl;
         stop = b.stop ∙ p.stop;
         refused = ap (λ (x : PortState). x.refused) z.dropped.state ∙ ap (λ (x : PortState). x.refused) z.wrote.state ∙ p.refused;
@@ -269,8 +279,8 @@ module _ (s u : PortState) (v : WatchData) (steps : List TrailStep) (c : Cref) (
     cut_ends z = by z.middle z.before z.refused
       where
         by : (m : PortState) → (m ≡ s) ⊎ WroteLeft s m v steps c → Refused m u stop → EndsAt s u (end_refused stop)
-        by m (inl is) r n limit below start p = refused_ends start s u n limit stop below p (subst (λ (x : PortState). Refused x u stop) is r) log port_then
-        by m (inr (inl k)) r n limit below start p =
+        by m (inl is) r n start p = refused_ends start s u n stop p (subst (λ (x : PortState). Refused x u stop) is r) log port_then
+        by m (inr (inl k)) r n start p =
             let same = refused_same m r in
             let first = added_behind s m left (min (glue_at s c.address) (length left - 1)) k.0 k.1 in
             let e : Entry = entry_of s k.1.number left Derive in
@@ -281,9 +291,10 @@ module _ (s u : PortState) (v : WatchData) (steps : List TrailStep) (c : Cref) (
               cause = subst (λ (x : PortState). Cause x (end_refused stop)) (sym r.state) (refused_cause m u.output stop r.reason (usable_none m (ap (λ (x : PortState). x.refused) k.1.state ∙ p.refused))
                   (going_more s m e first.mine p.going (some_literal left (omega (arith, k.1.long)))));
               unset = unset u (end_refused stop) (b.stop ∙ p.stop);
-              counts = refused_counts n limit stop below;
+              tickets = tickets_refused u stop (draws_same s u n b.tickets p.draws).left;
+              drawn = drawn_none u n (draws_same s u n b.tickets p.draws);
             }
-        by m (inr (inr k)) r n limit below start p =
+        by m (inr (inr k)) r n start p =
             let same = refused_same m r in
             let l = k.0 in
             let w = k.2 in
@@ -296,7 +307,8 @@ module _ (s u : PortState) (v : WatchData) (steps : List TrailStep) (c : Cref) (
               cause = subst (λ (x : PortState). Cause x (end_refused stop)) (sym r.state) (refused_cause m u.output stop r.reason (usable_none m (ap (λ (x : PortState). x.refused) w.state ∙ p.refused))
                   (going_more s m e first.mine p.going refl));
               unset = unset u (end_refused stop) (b.stop ∙ p.stop);
-              counts = refused_counts n limit stop below;
+              tickets = tickets_refused u stop (draws_same s u n b.tickets p.draws).left;
+              drawn = drawn_none u n (draws_same s u n b.tickets p.draws);
             }
 
     -- and nothing was learned or looked for
@@ -315,6 +327,7 @@ module _ (s u : PortState) (v : WatchData) (steps : List TrailStep) (c : Cref) (
                 ring = same.ring;
                 rings = same.rings;
                 depth = same.depth;
+                found = found_same m u same.tickets;
                 lemmas = ap (λ (q : ℕ). learned q u.mine) same.ring ∙ ap (learned m.ring) same.mine;
               }),
               same.looks ∙ ap (λ (x : PortState). x.looks) is,

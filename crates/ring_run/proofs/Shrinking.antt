@@ -54,7 +54,7 @@ refused_halts s u stop end is ends = subst (HaltsAt s u) (sym is) (record { ends
 
 -- and so is one after calls that leave each run as it was
 pub halts_then : (s m u : PortState) (end : End) → KeepsOn s m → HaltsAt m u end → HaltsAt s u end
-halts_then s m u end keeps h = record { ends = λ n limit below start p. h.ends n limit below start (keeps start n p); halted = h.halted; refusal = h.refusal; none = h.none }
+halts_then s m u end keeps h = record { ends = λ n start p. h.ends n start (keeps start n p); halted = h.halted; refusal = h.refusal; none = h.none }
 
 -- looks stay counted
 pub looks_kept : (s u : PortState) (old new : Ring) (base : ℕ) → u.looks ≡ s.looks → new.learned ≡ old.learned → new.trail.level ≡ old.trail.level → IsLooking base s old → IsLooking base u new

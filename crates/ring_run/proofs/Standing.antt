@@ -122,7 +122,7 @@ came_more came l k = list_any-append (same k) came (l ∷ []) ∙ ap (λ (b : Bo
 
 pub saw_begin : (s : PortState) → OnlySaw s s
 saw_begin s = record {
-  stays = record { start = refl; opening = refl; vars = refl; ring = refl; rings = refl; depth = refl; polled = omega arith; home = refl; log = λ o h. h };
+  stays = record { start = refl; opening = refl; vars = refl; ring = refl; rings = refl; depth = refl; polled = omega arith; limit = refl; home = refl; log = λ o h. h };
   shared = refl;
   polled = refl;
   polls = refl;
@@ -153,6 +153,7 @@ saw_more s u w l p took log =
         rings = ap (λ (x : PortState). x.rings) took.state ∙ p.stays.rings;
         depth = ap (λ (x : PortState). x.depth) took.state ∙ p.stays.depth;
         polled = omega (arith, ap (λ (x : PortState). x.polled) took.state, p.stays.polled);
+        limit = ap (λ (x : PortState). x.limit) took.state ∙ p.stays.limit;
         home = ap (λ (x : PortState). x.home) took.state ∙ p.stays.home;
         log = λ o h. log o (p.stays.log o h);
       };
@@ -186,6 +187,7 @@ saw_none s u w p took log = record {
     rings = ap (λ (x : PortState). x.rings) took.state ∙ p.stays.rings;
     depth = ap (λ (x : PortState). x.depth) took.state ∙ p.stays.depth;
     polled = omega (arith, ap (λ (x : PortState). x.polled) took.state, p.stays.polled);
+    limit = ap (λ (x : PortState). x.limit) took.state ∙ p.stays.limit;
     home = ap (λ (x : PortState). x.home) took.state ∙ p.stays.home;
     log = λ o h. log o (p.stays.log o h);
   };

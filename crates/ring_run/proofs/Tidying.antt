@@ -34,7 +34,8 @@ use Rattle.ring_run.proofs.Lately.{sees_same, lately_as}
 use Rattle.ring_run.proofs.Standing.{reasoned_more}
 use Rattle.ring_run.proofs.Telling.{told_same}
 use Rattle.ring_run.proofs.Turning.{wrote_search}
-use Rattle.ring_run.proofs.Progress.{Unchanged, same_refused, stays_by, news_moved, lines_moved, glued_same, glued_by, starts_kept, usable_none, refused_cause, refused_counts, unset}
+use Rattle.ring_run.proofs.Progress.{Unchanged, same_refused, stays_by, news_moved, lines_moved, glued_same, glued_by, starts_kept, usable_none, refused_cause, unset}
+use Rattle.ring_run.proofs.Tickets.{tickets_of, found_same, limit_same, draws_same, drawn_none, tickets_refused}
 
 -- Deletions in a journal
 
@@ -77,6 +78,7 @@ record Deleted (s u : PortState) (hs : List Holding) : Type 0 where
   pub polls_after : u.polls_after ≡ s.polls_after
   pub caught_up : u.caught_up ≡ s.caught_up
   pub taken : u.taken ≡ s.taken
+  pub tickets : tickets_of u ≡ tickets_of s
   pub home : u.home ≡ s.home
   pub given : u.given ≡ s.given
   pub seen : u.seen ≡ s.seen
@@ -99,6 +101,7 @@ deleted_eta s waiting hs output = record {
   polls_after = refl;
   caught_up = refl;
   taken = refl;
+  tickets = refl;
   home = refl;
   given = refl;
   seen = refl;
@@ -125,6 +128,7 @@ deleted_then s m u hs p q = record {
   polls_after = q.polls_after ∙ p.polls_after;
   caught_up = q.caught_up ∙ p.caught_up;
   taken = q.taken ∙ p.taken;
+  tickets = q.tickets ∙ p.tickets;
   home = q.home ∙ p.home;
   given = q.given ∙ p.given;
   seen = q.seen ∙ p.seen;
@@ -151,6 +155,7 @@ module _ (s u : PortState) (hs : List Holding) (d : Deleted s u hs) (log : Keeps
     rings = d.rings;
     depth = d.depth;
     polled = omega (arith, d.polled);
+    limit = limit_same s u d.tickets;
     home = d.home;
     log = log;
   }
@@ -206,6 +211,7 @@ module _ (s u : PortState) (hs : List Holding) (d : Deleted s u hs) (log : Keeps
   deleted_goes_on : (start : PortState) (n : ℕ) → u.refused ≡ s.refused → GoesOn start s n → IsPort u → GoesOn start u n
   deleted_goes_on start n refused p port = record {
     runs = deleted_runs start n p.runs port;
+    draws = draws_same s u n d.tickets p.draws;
     going = ap (list_any is_empty) deleted_added ∙ p.going;
     stop = d.stop ∙ p.stop;
     refused = refused ∙ p.refused;
@@ -213,7 +219,7 @@ module _ (s u : PortState) (hs : List Holding) (d : Deleted s u hs) (log : Keeps
   }
 
   deleted_nothing : OffersNothing s u
-  deleted_nothing = record { shared = d.shared; polled = d.polled; polls = d.polls; polls_after = d.polls_after; caught_up = omega (arith, d.caught_up); ring = d.ring; rings = d.rings; depth = d.depth; lemmas = deleted_learned }
+  deleted_nothing = record { shared = d.shared; polled = d.polled; polls = d.polls; polls_after = d.polls_after; caught_up = omega (arith, d.caught_up); ring = d.ring; rings = d.rings; depth = d.depth; found = found_same s u d.tickets; lemmas = deleted_learned }
 
 -- What a call that tidies leaves
 
@@ -260,7 +266,7 @@ tidied_keeps s u (Err stop) w log port = tt
 
 pub tidied_over : (s u : PortState) (r : Result (Unit {0}) PortStop) → Tidied s u r → KeepsLog s u → IsPort u → IfErr r (λ stop. EndsAt s u (end_refused stop))
 tidied_over s u (Ok done) w log port = tt
-tidied_over s u (Err stop) w log port = λ n limit below start p.
+tidied_over s u (Err stop) w log port = λ n start p.
     (let t = tidied s u (Err stop) w in
     let first = deleted_up_to s w.middle w.many w.first in
     let refused : w.middle.refused ≡ s.refused = ap (λ (x : PortState). x.refused) w.first.state in
@@ -271,7 +277,8 @@ tidied_over s u (Err stop) w log port = λ n limit below start p.
           (ap (λ (J : List Entry). list_any is_empty (added J)) first.mine
           ∙ ap (λ (xs : List Addition). list_any is_empty (map (λ (x : Addition). x.lits) xs)) (same_additions s.ring s.mine (take w.many s.waiting)) ∙ p.going));
       unset = unset u (end_refused stop) (t.1.stop ∙ p.stop);
-      counts = refused_counts n limit stop below;
+      tickets = tickets_refused u stop (draws_same s u n t.1.tickets p.draws).left;
+      drawn = drawn_none u n (draws_same s u n t.1.tickets p.draws);
     })
 
 -- a search goes on over a port that has tidied

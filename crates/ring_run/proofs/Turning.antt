@@ -117,28 +117,28 @@ grown_search s u t v w x n p is shape same grown reasons watched = subst (λ (y 
 })
 
 -- one step after another
-pub compose : (course : Next) (s middle u : PortState) (old between new : Ring) (limit : ℕ) → ((start : PortState) → GoesOn start s old.learned → GoesOn start middle between.learned)
-    → Leads middle between u new limit course → Leads s old u new limit course
-compose Go s middle u old between new limit to p = record { search = p.search; below = p.below; goes = λ start q. p.goes start (to start q) }
-compose (Finish end) s middle u old between new limit to p = λ start q. p start (to start q)
+pub compose : (course : Next) (s middle u : PortState) (old between new : Ring) → ((start : PortState) → GoesOn start s old.learned → GoesOn start middle between.learned)
+    → Leads middle between u new course → Leads s old u new course
+compose Go s middle u old between new to p = record { search = p.search; goes = λ start q. p.goes start (to start q) }
+compose (Finish end) s middle u old between new to p = λ start q. p start (to start q)
 
 -- what an import that is yet to be counts for
 abbrev pub due_of : (vars : ℕ) → Bool → ℕ
 due_of vars import_due = if import_due then vars + 1 else 0
 
-abbrev pub left_to_do : (limit learned vars : ℕ) → Bool → ℕ → ℕ
-left_to_do limit learned vars import_due steps = (limit - learned) * (2 * (vars + 1)) + due_of vars import_due + (vars - steps)
+abbrev pub left_to_do : (limit found vars : ℕ) → Bool → ℕ → ℕ
+left_to_do limit found vars import_due steps = (limit - found) * (2 * (vars + 1)) + due_of vars import_due + (vars - steps)
 
 due_bound : (vars : ℕ) (b : Bool) → due_of vars b ≤ vars + 1
 due_bound vars true = omega arith
 due_bound vars false = omega arith
 
--- a lemma more, a longer trail, or an import leaves less to do
-less_lemma : (limit n m vars k j : ℕ) (a b : Bool) → n < limit → m ≡ n + 1 → left_to_do limit m vars b j < left_to_do limit n vars a k
-less_lemma limit n m vars k j a b below one =
-    let left : limit - n ≡ (limit - m) + 1 = omega arith in
-    let spread : ((limit - m) + 1) * (2 * (vars + 1)) ≡ (limit - m) * (2 * (vars + 1)) + 2 * (vars + 1) = omega arith in
-    let whole : (limit - n) * (2 * (vars + 1)) ≡ (limit - m) * (2 * (vars + 1)) + 2 * (vars + 1) = ap (λ (x : ℕ). x * (2 * (vars + 1))) left ∙ spread in
+-- a draw, a longer trail, or an import leaves less to do
+less_drawn : (limit n m vars k j : ℕ) (a b : Bool) → m ≤ limit → n < m → left_to_do limit m vars b j < left_to_do limit n vars a k
+less_drawn limit n m vars k j a b few more =
+    let left : limit - n ≡ (limit - m) + 1 + (m - n - 1) = omega arith in
+    let spread : ((limit - m) + 1 + (m - n - 1)) * (2 * (vars + 1)) ≡ (limit - m) * (2 * (vars + 1)) + 2 * (vars + 1) + (m - n - 1) * (2 * (vars + 1)) = omega arith in
+    let whole : (limit - n) * (2 * (vars + 1)) ≡ (limit - m) * (2 * (vars + 1)) + 2 * (vars + 1) + (m - n - 1) * (2 * (vars + 1)) = ap (λ (x : ℕ). x * (2 * (vars + 1))) left ∙ spread in
     let due = due_bound vars b in
     omega arith
 
@@ -147,31 +147,32 @@ less_kept limit n m vars k j a b is less =
     let same : (limit - m) * (2 * (vars + 1)) ≡ (limit - n) * (2 * (vars + 1)) = ap (λ (x : ℕ). (limit - x) * (2 * (vars + 1))) is in
     omega arith
 
-less_left : (limit n m vars k j : ℕ) (a b : Bool) → n < limit → k ≤ vars → (m ≡ n + 1) ⊎ (((m ≡ n) × (k ≤ j)) × (((b ≡ a) × (k < j)) ⊎ ((a ≡ true) × (b ≡ false)))) → j ≤ vars
+less_left : (limit n m vars k j : ℕ) (a b : Bool) → m ≤ limit → k ≤ vars → (n < m) ⊎ (((m ≡ n) × (k ≤ j)) × (((b ≡ a) × (k < j)) ⊎ ((a ≡ true) × (b ≡ false)))) → j ≤ vars
     → left_to_do limit m vars b j < left_to_do limit n vars a k
-less_left limit n m vars k j a b below short (inl one) high = less_lemma limit n m vars k j a b below one
-less_left limit n m vars k j a b below short (inr ((is, some), inl (same, longer))) high =
+less_left limit n m vars k j a b few short (inl more) high = less_drawn limit n m vars k j a b few more
+less_left limit n m vars k j a b few short (inr ((is, some), inl (same, longer))) high =
     less_kept limit n m vars k j a b is (let e = ap (due_of vars) same in omega (arith, e))
-less_left limit n m vars k j a b below short (inr ((is, some), inr (was, now))) high =
+less_left limit n m vars k j a b few short (inr ((is, some), inr (was, now))) high =
     less_kept limit n m vars k j a b is (let before = ap (due_of vars) was in let after = ap (due_of vars) now in omega (arith, before, after))
 
-further_parts : (old new : Ring) → IsFurther old new
-    → (new.learned ≡ old.learned + 1) ⊎ (((new.learned ≡ old.learned) × (length old.trail.steps ≤ length new.trail.steps)) × (((new.import_due ≡ old.import_due) × (length old.trail.steps < length new.trail.steps)) ⊎ ((old.import_due ≡ true) × (new.import_due ≡ false))))
-further_parts old new (inl one) = inl one
-further_parts old new (inr (kept, more)) = inr ((kept.learned, kept.steps), more)
+further_parts : (s : PortState) (old : Ring) (u : PortState) (new : Ring) → IsFurther s old u new
+    → (s.found < u.found) ⊎ (((u.found ≡ s.found) × (length old.trail.steps ≤ length new.trail.steps)) × (((new.import_due ≡ old.import_due) × (length old.trail.steps < length new.trail.steps)) ⊎ ((old.import_due ≡ true) × (new.import_due ≡ false))))
+further_parts s old u new (inl more) = inl more
+further_parts s old u new (inr (kept, more)) = inr ((kept.found, kept.steps), more)
 
-pub less_to_do : (s u : PortState) (old new : Ring) (limit : ℕ) → InSearch s old → InSearch u new → u.vars ≡ s.vars → old.learned < limit → IsFurther old new
-    → left_to_do limit new.learned new.trail.vars new.import_due (length new.trail.steps) < left_to_do limit old.learned old.trail.vars old.import_due (length old.trail.steps)
-less_to_do s u old new limit p q vars below further =
+pub less_to_do : (s u : PortState) (old new : Ring) (limit : ℕ) → InSearch s old → InSearch u new → u.vars ≡ s.vars → u.found ≤ limit → IsFurther s old u new
+    → left_to_do limit u.found new.trail.vars new.import_due (length new.trail.steps) < left_to_do limit s.found old.trail.vars old.import_due (length old.trail.steps)
+less_to_do s u old new limit p q vars few further =
     let same : new.trail.vars ≡ old.trail.vars = q.stands.vars ∙ vars ∙ sym p.stands.vars in
     let high : length new.trail.steps ≤ old.trail.vars = omega (arith, q.trail.short, same) in
-    subst (λ (v : ℕ). left_to_do limit new.learned v new.import_due (length new.trail.steps) < left_to_do limit old.learned old.trail.vars old.import_due (length old.trail.steps)) (sym same)
-    (less_left limit old.learned new.learned old.trail.vars (length old.trail.steps) (length new.trail.steps) old.import_due new.import_due below p.trail.short (further_parts old new further) high)
+    subst (λ (v : ℕ). left_to_do limit u.found v new.import_due (length new.trail.steps) < left_to_do limit s.found old.trail.vars old.import_due (length old.trail.steps)) (sym same)
+    (less_left limit s.found u.found old.trail.vars (length old.trail.steps) (length new.trail.steps) old.import_due new.import_due few p.trail.short (further_parts s old u new further) high)
 
 -- a step after propagation
-pub further_grown : (old between new : Ring) → between.learned ≡ old.learned → between.import_due ≡ old.import_due → length old.trail.steps ≤ length between.trail.steps → IsFurther between new → IsFurther old new
-further_grown old between new learned import_due steps (inl one) = inl (omega (arith, one, learned))
-further_grown old between new learned import_due steps (inr (kept, inl (same, longer))) =
-    inr (record { learned = kept.learned ∙ learned; steps = omega (arith, kept.steps, steps) }, inl (same ∙ import_due, omega (arith, longer, steps)))
-further_grown old between new learned import_due steps (inr (kept, inr (was, now))) =
-    inr (record { learned = kept.learned ∙ learned; steps = omega (arith, kept.steps, steps) }, inr (sym import_due ∙ was, now))
+pub further_grown : (s m u : PortState) (old between new : Ring) → m ≡ s → between.import_due ≡ old.import_due → length old.trail.steps ≤ length between.trail.steps → IsFurther m between u new → IsFurther s old u new
+further_grown s m u old between new same import_due steps further = by (subst (λ (x : PortState). IsFurther x between u new) same further)
+  where
+    by : IsFurther s between u new → IsFurther s old u new
+    by (inl more) = inl more
+    by (inr (kept, inl (alike, longer))) = inr (record { found = kept.found; steps = omega (arith, kept.steps, steps) }, inl (alike ∙ import_due, omega (arith, longer, steps)))
+    by (inr (kept, inr (was, now))) = inr (record { found = kept.found; steps = omega (arith, kept.steps, steps) }, inr (sym import_due ∙ was, now))

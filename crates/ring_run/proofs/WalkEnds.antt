@@ -1,5 +1,5 @@
 -- A model that a walk found, and a search that goes on with it.
-use Rattle.std.proofs.Common.{◌≡◌, ◌∙◌, ℕ, ◌<◌, Bool, true, List, get_or, Option, Some, None, IfSome, sym, subst, refl, inl, inr}
+use Rattle.std.proofs.Common.{◌≡◌, ◌∙◌, Bool, true, List, get_or, Option, Some, None, IfSome, sym, subst, refl, inl, inr}
 use Rattle.std.specs.List.{Contains}
 use Rattle.std.proofs.lemmas.List.{get_or_default}
 use Rattle.sat_words.specs.Literal.{Literal}
@@ -18,6 +18,7 @@ use Rattle.ring_run.specs.Walked.{IsStartModel, Agrees, IsFound, EndsFound}
 use Rattle.ring_run.specs.declared.ring.Ring.{Ring}
 use Rattle.ring_run.specs.declared.job.End.TheVariants.{Sat}
 use Rattle.ring_run.specs.declared.course.Next.{Next}
+use Rattle.ring_run.proofs.Tickets.{drawn_none}
 use Rattle.ring_run.proofs.Progress.{usable_none, out_of_memory}
 use Rattle.ring_run.proofs.Telling.{told_model}
 
@@ -35,24 +36,25 @@ walked_model s ring a p model agrees = record {
     of_seen : (l : Literal) → has s.seen l ≡ true → lit_true a l ≡ true
     of_seen l h = agrees.true_there l (within l (p.stands.seen l h))
 
-pub walked_found : (s : PortState) (ring : Ring) (limit : ℕ) (a : List Bool) → InSearch s ring → ring.learned < limit → IsQuiet ring.watches (lits_at s) ring.trail → AreFirst ring.trail ring.written → IsStartModel s a → Agrees ring.trail a → EndsBy s ring.learned s ring.learned limit (Sat a)
-walked_found s ring limit a p below quiet first model agrees = λ start goes. record {
+pub walked_found : (s : PortState) (ring : Ring) (a : List Bool) → InSearch s ring → IsQuiet ring.watches (lits_at s) ring.trail → AreFirst ring.trail ring.written → IsStartModel s a → Agrees ring.trail a → EndsBy s ring.learned s ring.learned (Sat a)
+walked_found s ring a p quiet first model agrees = λ start goes. record {
   runs = goes.runs;
   cause = (walked_model s ring a p model agrees, usable_none s goes.refused, told_model s ring.trail ring.watches ring.written p quiet first, goes.going);
   unset = goes.stop;
-  counts = below;
+  tickets = (goes.draws.none, goes.draws.left);
+  drawn = drawn_none s ring.learned goes.draws;
 }
 
 pub same_some : {X : Type 0} (o : Option X) (a b : X) → o ≡ Some a → o ≡ Some b → a ≡ b
 same_some o a b e f = cc
 
 -- the end with the model that was found, or without memory for it
-pub found_leads : (s : PortState) (ring : Ring) (limit : ℕ) (model : Option (List Bool)) (course : Next) → InSearch s ring → ring.learned < limit → IsQuiet ring.watches (lits_at s) ring.trail → AreFirst ring.trail ring.written → IsFound s model
-    → (a : List Bool) → model ≡ Some a → Agrees ring.trail a → EndsFound model course → Leads s ring s ring limit course
-found_leads s ring limit model course p below quiet first found a is agrees (inl e) = subst (Leads s ring s ring limit) (sym e) (λ start goes. out_of_memory start s ring.learned limit below goes)
-found_leads s ring limit model course p below quiet first found a is agrees (inr f) =
-    subst (Leads s ring s ring limit) (sym f.2)
-    (walked_found s ring limit f.0 p below quiet first (found f.0 f.1) (subst (Agrees ring.trail) (same_some model a f.0 is f.1) agrees))
+pub found_leads : (s : PortState) (ring : Ring) (model : Option (List Bool)) (course : Next) → InSearch s ring → IsQuiet ring.watches (lits_at s) ring.trail → AreFirst ring.trail ring.written → IsFound s model
+    → (a : List Bool) → model ≡ Some a → Agrees ring.trail a → EndsFound model course → Leads s ring s ring course
+found_leads s ring model course p quiet first found a is agrees (inl e) = subst (Leads s ring s ring) (sym e) (λ start goes. out_of_memory start s ring.learned goes)
+found_leads s ring model course p quiet first found a is agrees (inr f) =
+    subst (Leads s ring s ring) (sym f.2)
+    (walked_found s ring f.0 p quiet first (found f.0 f.1) (subst (Agrees ring.trail) (same_some model a f.0 is f.1) agrees))
 
 -- for each model there may be
 pub if_some : {X : Type 0} (o : Option X) (P : X → Type 0) → ((x : X) → o ≡ Some x → P x) → IfSome o P

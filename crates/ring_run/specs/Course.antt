@@ -7,6 +7,8 @@ use Rattle.rup_model.specs.declared.journal.Addition.{Addition}
 use Rattle.rup_model.specs.Journal.{additions, recent}
 use Rattle.ring_port.specs.PortState.{PortState, Holding, held_at, lits_at}
 use Rattle.ring_port.specs.Port.{Learned}
+use Rattle.ring_port.specs.Drawing.{HasDrawn}
+use Rattle.ring_port.specs.declared.draw.Drawn.TheVariants.{Ticket, Gone}
 use Rattle.ring_port.specs.Deleting.{TidiedUpTo}
 use Rattle.reduce_db.specs.Lemmas.{AreDistinct}
 use Rattle.ring_trail.specs.TrailData.{TrailData, IsTrail, HasNoPlace, cut_back, assigned, decided}
@@ -47,16 +49,15 @@ pub record Searches (s : PortState) (t : TrailData) (w : WatchData) (n : ℕ) : 
 abbrev pub InSearch : PortState → Ring → Type 0
 InSearch s ring = Searches s ring.trail ring.watches ring.written
 
--- the search goes on, below its limit
-pub record GoesOnBy (old : PortState) (before : Ring) (new : PortState) (ring : Ring) (limit : ℕ) : Type 0 where
+-- the search goes on
+pub record GoesOnBy (old : PortState) (before : Ring) (new : PortState) (ring : Ring) : Type 0 where
   pub search : InSearch new ring
-  pub below : ring.learned < limit
   pub goes : (start : PortState) → GoesOn start old before.learned → GoesOn start new ring.learned
 
 -- what a step does, from a port and a ring to those after it: the search goes on, or comes to an end
-abbrev pub Leads : PortState → Ring → PortState → Ring → ℕ → Next → Type 0
-Leads old before new ring limit Go = GoesOnBy old before new ring limit
-Leads old before new ring limit (Finish end) = EndsBy old before.learned new ring.learned limit end
+abbrev pub Leads : PortState → Ring → PortState → Ring → Next → Type 0
+Leads old before new ring Go = GoesOnBy old before new ring
+Leads old before new ring (Finish end) = EndsBy old before.learned new ring.learned end
 
 -- what going back leaves of the trail
 pub record WentBack (t v : TrailData) (back : ℕ) : Type 0 where
@@ -122,22 +123,18 @@ pub record WasShared (old new : PortState) (before after : Ring) (lits : List Li
   pub learned : Learned old middle lits glue (Ok address)
   pub lent : HasLent middle new address before.exported before.offered after.exported after.offered
 
--- the lemma was learned, offered if it has a class, and counted, and its glue noted; nothing else was done at the port
-pub record HasSpent (s u : PortState) (old new : Ring) (lits : List Literal) (glue : ℕ) : Type 0 where
-  pub address : Option Cref
-  pub shared : WasShared s u old new lits glue address
-  pub learned : new.learned ≡ old.learned + 1
-  pub restarts : new.restarts ≡ noted old.restarts glue
-
--- a lemma was learned that asks for this level and has this glue, and its conflict left
+-- a ticket was drawn for a lemma, which was learned, asks for this level and has this glue, and its conflict was left
 pub record HasLearned (s u : PortState) (old new : Ring) (lits : List Literal) (back glue : ℕ) : Type 0 where
+  -- the port once the ticket was drawn
+  pub drawn : PortState
+  pub ticket : HasDrawn s drawn Ticket
   -- if it is held, if it has two literals or more
   pub address : Option Cref
   -- the clause held at the address is the lemma
   pub stored : IfSome address (λ c. lits_at u c.address ≡ lits)
   -- it was offered if it has a class, and then the clauses that waited were deleted
   pub between : PortState
-  pub shared : WasShared s between old new lits glue address
+  pub shared : WasShared drawn between old new lits glue address
   pub tidied : TidiedUpTo between u (length between.waiting)
   -- the lemma is counted
   pub learned : new.learned ≡ old.learned + 1
@@ -155,6 +152,11 @@ pub record CountsAlike (old new : Ring) : Type 0 where
   pub exported : new.exported ≡ old.exported
   pub offered : new.offered ≡ old.offered
 
+-- the draw found all tickets drawn, and nothing else was done
+pub record HasSpent (s u : PortState) (old new : Ring) : Type 0 where
+  pub gone : HasDrawn s u Gone
+  pub counts : CountsAlike old new
+
 -- the lemma was learned and offered if it has a class, its glue was noted, and it was asked whether a restart is due; then the run came
 -- to its end where the clauses that waited were deleted
 pub record HaltsBehind (s u : PortState) (old new : Ring) (lits : List Literal) (glue : ℕ) (end : End) : Type 0 where
@@ -165,19 +167,20 @@ pub record HaltsBehind (s u : PortState) (old new : Ring) (lits : List Literal) 
   pub learned : new.learned ≡ old.learned + 1
   pub restarts : new.restarts ≡ asked (noted old.restarts glue)
 
--- the call that learns was refused, or it was made and what came after it ended the run
+-- a ticket was drawn; then the call that learns was refused, or it was made and what came after it ended the run
 abbrev pub HaltsLearning : PortState → PortState → Ring → Ring → List Literal → (glue : ℕ) → End → Type 0
-HaltsLearning s u old new lits glue end = (EndsRefused s u end × CountsAlike old new) ⊎ HaltsBehind s u old new lits glue end
+HaltsLearning s u old new lits glue end = (drawn : PortState) × HasDrawn s drawn Ticket × ((EndsRefused drawn u end × CountsAlike old new) ⊎ HaltsBehind drawn u old new lits glue end)
 
--- what learning a lemma came to: it is no model and no stop of another
+-- what drawing a ticket for a lemma and learning it came to: it is no model and no stop of another
 abbrev pub LearnsTo : PortState → PortState → Ring → Ring → List Literal → (back glue : ℕ) → Next → Type 0
 LearnsTo s u old new lits back glue Go = HasLearned s u old new lits back glue
-LearnsTo s u old new lits back glue (Finish Spent) = HasSpent s u old new lits glue
+LearnsTo s u old new lits back glue (Finish Spent) = HasSpent s u old new
 LearnsTo s u old new lits back glue (Finish (Sat a)) = ⊥
 LearnsTo s u old new lits back glue (Finish (Stopped x)) = ⊥
 LearnsTo s u old new lits back glue (Finish end) = HaltsLearning s u old new lits glue end
 
--- the lemma of the conflict with this clause was learned: it is new, and its glue is how many levels its literals but the first have
+-- the lemma of the conflict with this clause was found, and a ticket asked for: the lemma is new, and its glue is how many levels its
+-- literals but the first have
 pub record LearnedFrom (s u : PortState) (old new : Ring) (conflict : Cref) (lits : List Literal) (course : Next) : Type 0 where
   pub back : ℕ
   pub glue : ℕ
@@ -219,18 +222,18 @@ abbrev pub IsOnOrRefused : Next → Type 0
 IsOnOrRefused Go = ⊤
 IsOnOrRefused (Finish end) = IsRefusal end
 
--- nothing more was learned, and the trail is no shorter
-pub record HasKept (old new : Ring) : Type 0 where
-  pub learned : new.learned ≡ old.learned
+-- no ticket was drawn, and the trail is no shorter
+pub record HasKept (s : PortState) (old : Ring) (u : PortState) (new : Ring) : Type 0 where
+  pub found : u.found ≡ s.found
   pub steps : length old.trail.steps ≤ length new.trail.steps
 
 -- with a longer trail, or no import that is yet to be
 abbrev pub HasMore : Ring → Ring → Type 0
 HasMore old new = ((new.import_due ≡ old.import_due) × (length old.trail.steps < length new.trail.steps)) ⊎ ((old.import_due ≡ true) × (new.import_due ≡ false))
 
--- one lemma more, or a longer trail, or an import that was yet to be
-abbrev pub IsFurther : Ring → Ring → Type 0
-IsFurther old new = (new.learned ≡ old.learned + 1) ⊎ (HasKept old new × HasMore old new)
+-- a ticket was drawn, after more than at the last draw; or there is a longer trail, or an import that was yet to be
+abbrev pub IsFurther : PortState → Ring → PortState → Ring → Type 0
+IsFurther s old u new = (s.found < u.found) ⊎ (HasKept s old u new × HasMore old new)
 
 -- as much is counted as offered as before, by the same ring
 pub record AreSameOffers (old new : Ring) : Type 0 where
@@ -300,7 +303,7 @@ last_start s = last_of (map (λ (h : Holding). record { address = h.address }) s
 
 -- no two lemmas are at the same address, each is attached, and none is at the address of a start clause; they stand in the
 -- order of their lines, and the glue of each is one at least; the lemmas learned since the ring last reduced them are
--- counted, and so are the reductions; each import is attached, and where the start clauses end is known
+-- counted, and so are the reductions, each of which came after two lemmas or more; each import is attached, and where the start clauses end is known
 pub record HasLemmas (s : PortState) (ring : Ring) : Type 0 where
   pub ordered : AreOrdered s ring.lemmas.items
   pub glued : (c : Cref) → Contains ring.lemmas.items c → 1 ≤ glue_at s c.address
@@ -309,7 +312,7 @@ pub record HasLemmas (s : PortState) (ring : Ring) : Type 0 where
   pub member : All (Contains (attached ring.watches)) ring.lemmas.items
   pub apart : (h : Holding) (c : Cref) → Contains s.start h → Contains ring.lemmas.items c → c.address ≢ h.address
   pub count : ring.learned ≡ ring.reduced_at + length (recent s.ring s.mine)
-  pub few : ring.reductions ≤ ring.reduced_at
+  pub few : 2 * ring.reductions ≤ ring.reduced_at
   pub imported : All (Contains (attached ring.watches)) ring.imports.items
   pub last : ring.last_start ≡ last_start s
 

@@ -1,5 +1,5 @@
 -- What a run of a ring says: what it asks of its port, what it wrote, and what each end says.
-use Rattle.std.specs.Prelude.{◌≡◌, ◌≢◌, ◌≤◌, ◌<◌, ◌⊎◌, ℕ, zero, suc, ◌+◌, ◌-◌, ◌*◌, ◌%◌, ◌^◌, ◌==◌, min, Bool, true, false, List, [], ◌∷◌, ◌++◌, map, filter, length, All, Contains, Option, Some, None, IfSome, nat_le, ◌&&◌, ⊤}
+use Rattle.std.specs.Prelude.{◌≡◌, ◌≢◌, ◌≤◌, ◌<◌, ◌⊎◌, ℕ, zero, suc, ◌+◌, ◌-◌, ◌*◌, ◌%◌, ◌^◌, ◌==◌, min, Bool, true, false, List, [], ◌∷◌, ◌++◌, map, filter, length, All, Contains, Option, Some, None, IfSome, nat_le, ◌&&◌, if◌then◌else◌, ⊤}
 use Rattle.std.specs.List.{list_any, flat_map, range_with_len}
 use Rattle.sat_words.specs.Literal.{Literal}
 use Rattle.sat_words.specs.Clause.{has, is_empty}
@@ -20,7 +20,7 @@ use Rattle.ring_port.specs.Log.{KeepsLog, start_of}
 use Rattle.ring_port.specs.declared.stops.PortStop.TheVariants.{NoHole as NoHoleAnswer}
 use Rattle.reduce_db.specs.Moment.{lemmas_before}
 use Rattle.restart_plan.specs.Luby.{luby_sum}
-use Rattle.restart_plan.specs.Plan.{AreMost, AreMostBefore, luby_unit}
+use Rattle.restart_plan.specs.Plan.{AreMost, luby_unit}
 use Rattle.ring_run.specs.declared.job.Job.{Job}
 use Rattle.ring_run.specs.declared.job.Counts.{Counts}
 use Rattle.ring_run.specs.declared.job.End.{End}
@@ -28,16 +28,16 @@ use Rattle.ring_run.specs.declared.job.End.TheVariants.{Sat, Refuted, Spent, Sto
 
 -- What a run asks for
 
--- the job is this port's, on variables that literals can have, and there is something to learn
+-- the job is this port's, on variables that literals can have
 pub record IsJobOf (s : PortState) (job : Job) : Type 0 where
   pub small : job.vars ≤ 2 ^ 30
   pub ring : job.ring ≡ s.ring
   pub rings : job.rings ≡ s.rings
   pub vars : job.vars ≡ s.vars
   pub start : job.start ≡ map (λ (h : Holding). record { address = h.address }) s.start
-  pub some : 1 ≤ job.conflicts
 
--- the ring holds each start clause; nothing is seen, added, taken, shared or polled yet, no stop is known, and nothing was refused
+-- the ring holds each start clause; nothing is seen, added, taken, shared or polled yet, no ticket was drawn, no stop is known, and nothing
+-- was refused
 pub record IsUntouched (s : PortState) : Type 0 where
   pub held : HoldsStart s
   pub seen : s.seen ≡ []
@@ -47,6 +47,8 @@ pub record IsUntouched (s : PortState) : Type 0 where
   pub refused : s.refused ≡ None
   pub shared : s.shared ≡ 0
   pub polled : s.polled ≡ 0
+  pub ticket : s.ticket ≡ false
+  pub found : s.found ≡ 0
 
 -- What it leaves
 
@@ -59,6 +61,7 @@ pub record Stays (old new : PortState) : Type 0 where
   pub rings : new.rings ≡ old.rings
   pub depth : new.depth ≡ old.depth
   pub polled : min old.polled (2 ^ 64 - 1) ≤ new.polled
+  pub limit : new.limit ≡ old.limit
   pub home : new.home ≡ old.home
   pub log : KeepsLog old new
 
@@ -177,9 +180,10 @@ pub record HoldsGlued (old new : PortState) : Type 0 where
   pub few : min (length others) (2 ^ 64 - 1) ≤ new.polled
   pub each : (h : Holding) → Contains new.held h → Contains old.held h ⊎ (Contains others h.address ⊎ IsGlued h)
 
--- a model comes after one look more
+-- a model comes after one look more, and so does the conflict at which all tickets have been drawn
 abbrev pub last_looks : End → ℕ
 last_looks (Sat a) = 1
+last_looks Spent = 1
 last_looks _ = 0
 
 -- as many looks as this were made and found no stop, or their count stands at its last value
@@ -206,7 +210,7 @@ pub record HasOffered (s : PortState) (exported offered : ℕ) : Type 0 where
 abbrev pub polls_of : PortState → ℕ → ℕ
 polls_of s imports = min (4 * s.depth * (length (other_rings s) * imports)) (2 ^ 64 - 1)
 
--- the ring has neither found a model nor learned its limit of lemmas
+-- the ring has neither found a model nor found all tickets drawn
 abbrev pub IsHalted : End → Type 0
 IsHalted (Sat a) = ⊥
 IsHalted Spent = ⊥
@@ -266,12 +270,20 @@ pub record IsCounted (s : PortState) (counts : Counts) : Type 0 where
   pub learned_is : counts.learned ≡ length (learned s.ring s.mine)
   pub offers : HasOffered s counts.exported counts.offered
 
--- there are 50 lemmas or more for each restart; by a ring of odd number just as many were made as Luby's
--- sequence allows for the lemmas, of which the last is followed by none if the ring is spent
-pub record HasRestarted (ring limit : ℕ) (counts : Counts) : Type 0 where
+-- there are 50 lemmas or more for each restart; by a ring of odd number just as many were made as Luby's sequence allows for the lemmas
+pub record HasRestarted (ring : ℕ) (counts : Counts) : Type 0 where
   pub few : 50 * counts.restarts ≤ counts.learned
-  pub most : ring % 2 ≡ 1 → counts.learned < limit → AreMost counts.restarts counts.learned
-  pub spent : ring % 2 ≡ 1 → counts.learned ≡ limit → AreMostBefore counts.restarts counts.learned
+  pub most : ring % 2 ≡ 1 → AreMost counts.restarts counts.learned
+
+-- for each lemma a ticket was drawn, and so was the one in hand
+abbrev pub HasDrawnFor : PortState → (learned : ℕ) → Type 0
+HasDrawnFor s learned = learned + (if s.ticket then 1 else 0) ≤ s.found
+
+-- the last draw found all tickets drawn if the ring is spent, and fewer if it is not; none is in hand if it is spent or found a model
+abbrev pub TicketsAt : PortState → End → Type 0
+TicketsAt s (Sat a) = (s.ticket ≡ false) × (s.found ≤ s.limit)
+TicketsAt s Spent = (s.ticket ≡ false) × (s.limit < s.found)
+TicketsAt s _ = s.found ≤ s.limit
 
 -- since its last Reduce entry the ring has learned fewer lemmas, without the last n, than its next reduction comes after
 abbrev pub IsInTime : PortState → ℕ → Type 0

@@ -1,5 +1,5 @@
 -- How a run comes to its end.
-use Rattle.std.specs.Prelude.{◌≡◌, ◌⊎◌, ℕ, ◌<◌, List, length, Option, None, Some, IfSome, ⊤}
+use Rattle.std.specs.Prelude.{◌≡◌, ◌⊎◌, ℕ, List, length, Option, None, Some, IfSome, ⊤}
 use Rattle.ring_port.specs.PortState.{PortState}
 use Rattle.sat_words.specs.declared.shared.Set.{Set}
 use Rattle.sat_words.specs.declared.shared.Set.TheVariants.{Won, Lost}
@@ -7,7 +7,7 @@ use Rattle.ring_port.specs.Port.{EndedLog, Refused, SetStop}
 use Rattle.ring_port.specs.Deleting.{TidiedUpTo, TidiedSome}
 use Rattle.ring_port.specs.declared.stops.PortStop.{PortStop}
 use Rattle.ring_port.specs.declared.stops.PortStop.TheVariants as answer
-use Rattle.ring_run.specs.Ended.{Cause, stop_kind}
+use Rattle.ring_run.specs.Ended.{Cause, HasDrawnFor, TicketsAt, stop_kind}
 use Rattle.ring_trail.specs.declared.step.TrailStep.{TrailStep}
 use Rattle.ring_run.specs.Searching.{Runs, GoesOn, ToldUnits, SeenTrue}
 use Rattle.ring_run.specs.declared.job.End.{End}
@@ -31,29 +31,25 @@ IsRefusal (NoHole lack) = ⊤
 IsRefusal ProofFault = ⊤
 IsRefusal Memory = ⊤
 
--- as many lemmas were learned as may be if the ring is spent, else fewer
-abbrev pub CountsTo : (count limit : ℕ) → End → Type 0
-CountsTo count limit Spent = count ≡ limit
-CountsTo count limit _ = count < limit
-
 -- no stop stands that keeps the end from setting its own
 abbrev pub IsUnset : PortState → End → Type 0
 IsUnset s end = IfSome (stop_kind end) (λ kind. s.stop ≡ None)
 
 -- a run has come to this end, and has not set its stop yet
-pub record ComesTo (start s : PortState) (count limit : ℕ) (end : End) : Type 0 where
+pub record ComesTo (start s : PortState) (count : ℕ) (end : End) : Type 0 where
   pub runs : Runs start s count
   pub cause : Cause s end
   pub unset : IsUnset s end
-  pub counts : CountsTo count limit end
+  pub tickets : TicketsAt s end
+  pub drawn : HasDrawnFor s count
 
 -- a run that goes on in one state has come to this end in the other
-abbrev pub EndsBy : PortState → ℕ → PortState → ℕ → ℕ → End → Type 0
-EndsBy old before new count limit end = (start : PortState) → GoesOn start old before → ComesTo start new count limit end
+abbrev pub EndsBy : PortState → ℕ → PortState → ℕ → End → Type 0
+EndsBy old before new count end = (start : PortState) → GoesOn start old before → ComesTo start new count end
 
 -- the same of a step that learns nothing
 abbrev pub EndsAt : PortState → PortState → End → Type 0
-EndsAt old new end = (count limit : ℕ) → count < limit → EndsBy old count new count limit end
+EndsAt old new end = (count : ℕ) → EndsBy old count new count end
 
 -- a call was refused, which is the end, and nothing else was done; want of memory leaves the port as it was
 abbrev pub EndsRefused : PortState → PortState → End → Type 0

@@ -1,4 +1,4 @@
--- How a search comes to an end that is no model, no limit of lemmas and no stop of another: what was done before its last call.
+-- How a search comes to an end that is no model, no want of tickets and no stop of another: what was done before its last call.
 use Rattle.std.specs.Prelude.{◌≡◌, ◌⊎◌, ℕ, zero, suc, ◌+◌, List, [], ◌∷◌, ◌++◌, drop, All, Contains, None}
 use Rattle.sat_words.specs.Literal.{Literal, literal_of}
 use Rattle.sat_words.specs.declared.shared.Cref.{Cref}

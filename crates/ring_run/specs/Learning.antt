@@ -1,9 +1,11 @@
 -- What a call that learns a lemma leaves of a port and a ring, whatever it comes to.
-use Rattle.std.specs.Prelude.{◌≡◌, ◌≢◌, ◌⊎◌, ℕ, ◌+◌, List, [], length, Option}
+use Rattle.std.specs.Prelude.{◌≡◌, ◌⊎◌, ℕ, ◌+◌, List, [], length, Option}
 use Rattle.sat_words.specs.Literal.{Literal}
 use Rattle.sat_words.specs.declared.shared.Cref.{Cref}
 use Rattle.ring_port.specs.PortState.{PortState, IsPort}
 use Rattle.ring_port.specs.Port.{Refused, KeepsHeld}
+use Rattle.ring_port.specs.Drawing.{HasDrawn}
+use Rattle.ring_port.specs.declared.draw.Drawn.TheVariants.{Ticket, Gone}
 use Rattle.ring_port.specs.Log.{KeepsLog}
 use Rattle.ring_port.specs.Deleting.{TidiedUpTo}
 use Rattle.ring_port.specs.declared.stops.PortStop.{PortStop}
@@ -53,7 +55,7 @@ abbrev pub LeavesBy : PortState → PortState → Ring → Ring → List Literal
 LeavesBy s u old new lits back address Go = HasLeftTidy s u old new lits back address
 LeavesBy s u old new lits back address (Finish end) = EndsAt s u end × IsRefusal end × HaltsDeleting s u end
 
--- what comes after a lemma that isn't the last
+-- what comes after a lemma
 pub record HasFinished (s u : PortState) (old new : Ring) (lits : List Literal) (back : ℕ) (address : Option Cref) (course : Next) : Type 0 where
   pub asked_for : HasAsked s u old new
   pub leaves : LeavesBy s u old new lits back address course
@@ -67,22 +69,34 @@ pub record WasRefused (s u : PortState) (old new : Ring) (course : Next) : Type 
   pub ring : new ≡ old
   pub over : course ≡ Finish (end_refused stop)
 
--- the lemma reached the limit, and nothing was done after it
-pub record WasLast (s u : PortState) (old new : Ring) (lits : List Literal) (glue limit : ℕ) (course : Next) : Type 0 where
-  pub address : Option Cref
-  pub shared : HasShared s u old new lits glue address
-  pub last : new.learned ≡ limit
-  pub over : course ≡ Finish Spent
-
--- the lemma is below the limit, and so much came after it
-pub record WasFollowed (s u : PortState) (old new : Ring) (lits : List Literal) (back glue limit : ℕ) (course : Next) : Type 0 where
+-- the lemma was learned, and so much came after it
+pub record WasFollowed (s u : PortState) (old new : Ring) (lits : List Literal) (back glue : ℕ) (course : Next) : Type 0 where
   pub between : PortState
   pub middle : Ring
   pub address : Option Cref
   pub shared : HasShared s between old middle lits glue address
-  pub more : middle.learned ≢ limit
   pub finished : HasFinished between u middle new lits back address course
 
 -- what the call that learns a lemma comes to: one of these
-abbrev pub ComesOf : PortState → PortState → Ring → Ring → List Literal → (back glue limit : ℕ) → Next → Type 0
-ComesOf s u old new lits back glue limit course = WasRefused s u old new course ⊎ (WasLast s u old new lits glue limit course ⊎ WasFollowed s u old new lits back glue limit course)
+abbrev pub ComesOf : PortState → PortState → Ring → Ring → List Literal → (back glue : ℕ) → Next → Type 0
+ComesOf s u old new lits back glue course = WasRefused s u old new course ⊎ WasFollowed s u old new lits back glue course
+
+-- a ticket was drawn, and the lemma was to be learned
+pub record HasTried (s u : PortState) (old new : Ring) (lits : List Literal) (back glue : ℕ) (course : Next) : Type 0 where
+  pub drawn : PortState
+  pub ticket : HasDrawn s drawn Ticket
+  pub log : KeepsLog s drawn
+  pub port : IsPort drawn
+  pub comes : ComesOf drawn u old new lits back glue course
+
+-- the draw found all tickets drawn, and nothing was done after it
+pub record HasGone (s u : PortState) (old new : Ring) (course : Next) : Type 0 where
+  pub gone : HasDrawn s u Gone
+  pub log : KeepsLog s u
+  pub port : IsPort u
+  pub ring : new ≡ old
+  pub over : course ≡ Finish Spent
+
+-- what drawing a ticket for a lemma comes to
+abbrev pub CameOfDraw : PortState → PortState → Ring → Ring → List Literal → (back glue : ℕ) → Next → Type 0
+CameOfDraw s u old new lits back glue course = HasGone s u old new course ⊎ HasTried s u old new lits back glue course

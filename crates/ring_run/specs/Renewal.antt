@@ -245,7 +245,7 @@ abbrev pub TookCode : Point → Point → (code left rest : ℕ) → Type 0
 TookCode p q c left rest =
     (HasValue p.trail.steps (literal_of c) × (q ≡ p) × (rest ≡ left)) ⊎ (HasNoPlace p.trail.steps (literal_of c).var × WasProbed p q (literal_of c) × (left ≡ rest + 1))
 
--- it comes to an end that is no model, no limit of lemmas and no stop of another, and takes no look
+-- it comes to an end that is no model, no want of tickets and no stop of another, and takes no look
 pub record HaltsAt (old new : PortState) (end : End) : Type 0 where
   pub ends : EndsAt old new end
   pub halted : IsHalted end

@@ -55,7 +55,7 @@ pub record HasClauses (s : PortState) (cs : List Cref) : Type 0 where
 
 -- What calls change
 
--- nothing was learned or offered, no clause of another ring was looked for, and no look for units is forgotten
+-- nothing was learned or offered, no ticket was drawn, no clause of another ring was looked for, and no look for units is forgotten
 pub record OffersNothing (old new : PortState) : Type 0 where
   pub shared : new.shared ≡ old.shared
   pub polled : new.polled ≡ old.polled
@@ -65,6 +65,7 @@ pub record OffersNothing (old new : PortState) : Type 0 where
   pub ring : new.ring ≡ old.ring
   pub rings : new.rings ≡ old.rings
   pub depth : new.depth ≡ old.depth
+  pub found : new.found ≡ old.found
   pub lemmas : learned new.ring new.mine ≡ learned old.ring old.mine
 
 -- a lemma of this class was offered to each other ring and counted; one without a class was not
@@ -207,9 +208,16 @@ pub record Runs (start s : PortState) (count : ℕ) : Type 0 where
   pub lately : HoldsRecent s
   pub port : IsPort s
 
+-- no ticket is in hand, the last draw found fewer drawn than there are, and for each lemma one was drawn
+pub record CanDraw (s : PortState) (learned : ℕ) : Type 0 where
+  pub none : s.ticket ≡ false
+  pub left : s.found ≤ s.limit
+  pub within : learned ≤ s.found
+
 -- nothing has ended it yet
 pub record GoesOn (start s : PortState) (count : ℕ) : Type 0 where
   pub runs : Runs start s count
+  pub draws : CanDraw s count
   pub going : list_any is_empty (added s.mine) ≡ false
   pub stop : s.stop ≡ None
   pub refused : s.refused ≡ None

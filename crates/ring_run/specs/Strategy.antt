@@ -1,12 +1,12 @@
 -- What a ring knows of the variables that it decides, and counts for its restarts.
-use Rattle.std.specs.Prelude.{◌≡◌, ◌⊎◌, ℕ, ◌+◌, ◌-◌, ◌<◌, Bool, true, false, not, nat_lt, List, [], ◌∷◌, map, length, filter, slice_set, Contains}
+use Rattle.std.specs.Prelude.{◌≡◌, ◌⊎◌, ℕ, ◌+◌, ◌-◌, Bool, true, false, not, nat_lt, List, [], ◌∷◌, map, length, filter, slice_set, Contains}
 use Rattle.std.specs.List.{slice_index_or}
 use Rattle.sat_words.specs.Literal.{Literal}
 use Rattle.sat_words.specs.Clause.{has}
 use Rattle.ring_port.specs.PortState.{PortState, Holding}
 use Rattle.ring_trail.specs.declared.step.TrailStep.{TrailStep}
 use Rattle.ring_decide.specs.DeciderData.{DeciderData, IsActive}
-use Rattle.restart_plan.specs.Plan.{Restarting, IsExact, AreMostBefore}
+use Rattle.restart_plan.specs.Plan.{Restarting, IsExact}
 
 -- what is marked stays so
 abbrev pub AreMore : List Bool → List Bool → Type 0
@@ -55,9 +55,7 @@ steps_above k steps = filter (λ s. nat_lt k s.level) steps
 abbrev pub saved_above : DeciderData → List TrailStep → ℕ → DeciderData
 saved_above d steps k = record d { phase = saved d.phase (steps_above k steps) }
 
--- each lemma was noted; by a ring of odd number each but that which reaches the limit was followed by the question whether a
--- restart is due
-pub record IsPaced (r : Restarting) (learned limit : ℕ) : Type 0 where
+-- each lemma was noted; by a ring of odd number each was followed by the question whether a restart is due
+pub record IsPaced (r : Restarting) (learned : ℕ) : Type 0 where
   pub count : r.count ≡ learned
-  pub exact : r.odd ≡ true → learned < limit → IsExact r
-  pub last : r.odd ≡ true → learned ≡ limit → AreMostBefore r.made r.count
+  pub exact : r.odd ≡ true → IsExact r

@@ -57,7 +57,7 @@ pub record TookTurn (s u : PortState) (old new : Ring) : Type 0 where
   pub propagated : HasPropagated s old middle
   pub acted : Acted s u middle new
 
--- a turn whose lemma is the last one
+-- a turn at whose conflict all tickets had been drawn
 pub record SpentTurn (s u : PortState) (old new : Ring) : Type 0 where
   pub middle : Ring
   pub propagated : HasPropagated s old middle

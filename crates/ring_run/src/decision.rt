@@ -8,7 +8,7 @@ ghost use Rattle.watch_prop.specs.Propagation.{IsQuiet};
 ghost use Rattle.ring_run.specs.Ended.{Stays};
 ghost use Rattle.ring_run.specs.Strategy.{Decides};
 ghost use Rattle.ring_run.specs.Walked.{IsFound};
-ghost use Rattle.ring_run.specs.Searching.{OffersNothing, AreFirst, KeepsOn, OnlyWrote, ToldUnits};
+ghost use Rattle.ring_run.specs.Searching.{CanDraw, OffersNothing, AreFirst, KeepsOn, OnlyWrote, ToldUnits};
 ghost use Rattle.ring_run.specs.Ending.{EndsAt, HaltsTelling, end_refused};
 ghost use Rattle.ring_run.specs.Turn.{ActedAtQuiet, EndsDeciding, EndsQuietly};
 ghost use Rattle.ring_run.specs.Course.{AreSameOffers, InSearch, HasLemmas, KeepsLemmas, Leads, IsFurther, KeepsLooking, TakesALook, KeepsOffering, KeepsPolling, IsPolling, HasPolledBy, KeepsImporting, KeepsTidy, KeepsInTime, HasDecided};
@@ -41,21 +41,14 @@ fn model_of(alloc: Global, trail: &Trail) -> Result<Assignment, AllocError>
 
 /// Decides a variable of the start clauses that has no value. If there is none, each of these is true. So it is if the walk found
 /// an assignment, and that makes true what is true without a decision. A look that found no stop came before.
-fn decide<P: Port>(
-    alloc: Global,
-    port: &mut P,
-    ring: &mut Ring,
-    limit: u64,
-    model: &Option<Assignment>,
-) -> Next
+fn decide<P: Port>(alloc: Global, port: &mut P, ring: &mut Ring, model: &Option<Assignment>) -> Next
     requires search { InSearch (P.state port.old) ring.old }
-    requires below { ring.old.learned < limit }
     requires decides { Decides (P.state port.old) ring.old.decider }
     requires quiet { IsQuiet ring.old.watches (lits_at (P.state port.old)) ring.old.trail }
     requires first { AreFirst ring.old.trail ring.old.written }
     requires settled { ring.old.import_due ≡ false }
     requires found { IsFound (P.state port.old) model.now }
-    ensures leads { Leads (P.state port.old) ring.old (P.state port.new) ring.new limit result }
+    ensures leads { Leads (P.state port.old) ring.old (P.state port.new) ring.new result }
     ensures ended { EndsDeciding (P.state port.old) ring.old ring.new result }
     ensures learned { ring.new.learned ≡ ring.old.learned }
     ensures decided { result ≡ Next.Go → HasDecided ring.old ring.new }
@@ -128,20 +121,19 @@ pub(crate) fn decide_next<P: Port>(
     alloc: Global,
     port: &mut P,
     ring: &mut Ring,
-    limit: u64,
     model: &Option<Assignment>,
 ) -> Next
     requires search { InSearch (P.state port.old) ring.old }
-    requires below { ring.old.learned < limit }
+    requires draws { CanDraw (P.state port.old) ring.old.learned }
     requires decides { Decides (P.state port.old) ring.old.decider }
     requires quiet { IsQuiet ring.old.watches (lits_at (P.state port.old)) ring.old.trail }
     requires polling { IsPolling (P.state port.old) ring.old }
     requires listed { HasLemmas (P.state port.old) ring.old }
     requires found { IsFound (P.state port.old) model.now }
-    ensures leads { Leads (P.state port.old) ring.old (P.state port.new) ring.new limit result }
+    ensures leads { Leads (P.state port.old) ring.old (P.state port.new) ring.new result }
     ensures ended { EndsQuietly (P.state port.old) (P.state port.new) ring.old ring.new result }
     ensures learned { ring.new.learned ≡ ring.old.learned }
-    ensures further { result ≡ Next.Go → IsFurther ring.old ring.new }
+    ensures further { result ≡ Next.Go → IsFurther (P.state port.old) ring.old (P.state port.new) ring.new }
     ensures acted { result ≡ Next.Go → ActedAtQuiet (P.state port.old) (P.state port.new) ring.old ring.new }
     ensures restarts { ring.new.restarts ≡ ring.old.restarts }
     ensures offering { KeepsOffering (P.state port.old) ring.old (P.state port.new) ring.new }
@@ -164,5 +156,5 @@ pub(crate) fn decide_next<P: Port>(
     if ring.import_due {
         return reduce_vivify_import(alloc, port, ring);
     }
-    decide(alloc, port, ring, limit, model)
+    decide(alloc, port, ring, model)
 }

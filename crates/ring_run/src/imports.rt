@@ -145,7 +145,7 @@ pub(crate) fn import<P: Port>(port: &mut P, ring: &mut Ring) -> Next
     requires import { MayImport (P.state port.old) ring.old.trail ring.old.watches ring.old.written }
     requires polling { IsPolling (P.state port.old) ring.old }
     requires import_due { ring.old.import_due ≡ true }
-    ensures leads { (limit : ℕ) → ring.old.learned < limit → Leads (P.state port.old) ring.old (P.state port.new) ring.new limit result }
+    ensures leads { Leads (P.state port.old) ring.old (P.state port.new) ring.new result }
     ensures refused { IsOnOrRefused result }
     ensures halts { HaltsBy (HaltsImporting (P.state port.old) (P.state port.new)) result }
     ensures took { result ≡ Next.Go → TookImport (P.state port.old) (P.state port.new) ring.old ring.new }

@@ -46,8 +46,6 @@ pub struct Job {
     pub vars: u32,
     /// The clauses that the search starts with, if the port holds them.
     pub start: Addresses,
-    /// How many lemmas the ring may learn.
-    pub conflicts: u64,
     /// What the first phases of the variables are made of, with the ring's number, and what a walk draws.
     pub seed: u64,
     /// How many steps the ring walks after its first import; with none it makes no walk.
@@ -74,7 +72,7 @@ pub enum End {
     Sat(Assignment),
     /// The empty clause stands in the log.
     Refuted,
-    /// It learned its limit of lemmas.
+    /// At a conflict it asked for a ticket, to learn one lemma more, and all had been drawn.
     Spent,
     /// The stop of another ring was seen.
     Stopped(Stop),

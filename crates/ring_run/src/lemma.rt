@@ -11,17 +11,17 @@ ghost use Rattle.watch_prop.specs.WatchData.{attached};
 ghost use Rattle.watch_prop.specs.Watched.{Watched};
 ghost use Rattle.watch_prop.specs.Propagation.{IsConflict};
 ghost use Rattle.ring_run.specs.Strategy.{Decides, IsPaced};
-ghost use Rattle.ring_run.specs.Searching.{OffersNothing, HasLent, IsAsserting, HoldsByGlue, OnlyWrote, KeepsOn};
+ghost use Rattle.ring_run.specs.Searching.{CanDraw, OffersNothing, HasLent, IsAsserting, HoldsByGlue, OnlyWrote, KeepsOn};
 ghost use Rattle.ring_run.specs.Ending.{EndsAt, end_refused};
 ghost use Rattle.ring_run.specs.Course.{AreSameOffers, IsOffering, InSearch, HasLemmas, Leads, CanAssert, Asserted, Restarted, HasLeft, KeepsLooking, KeepsPolling, KeepsImporting, HasTidied, KeepsInTime, SumsUp, LearnsFrom};
-ghost use Rattle.ring_run.specs.Learning.{HasShared, HasFinished, ComesOf};
+ghost use Rattle.ring_run.specs.Learning.{HasShared, HasFinished, CameOfDraw};
 
 use crate::course::{Next, end_refused, refute};
 use crate::job::End;
 use crate::ring::{Ring, go_back};
 use crate::variables::bump_analyzed;
 use analyze::{Analysis, Conclusion};
-use ring_port::{Port, PortStop, class_of};
+use ring_port::{Drawn, Port, PortStop, class_of};
 use ring_trail::Trail;
 use sat_words::{Cref, Lit};
 use std::alloc::AllocError;
@@ -176,13 +176,14 @@ pub(crate) fn tidy_up<P: Port>(port: &mut P) -> Result<(), PortStop>
     port.tidy()
 }
 
-/// Learns a lemma, counts it, notes its glue for the restarts, and offers it to the other rings.
+/// Learns a lemma with the ticket in hand, counts it, notes its glue for the restarts, and offers it to the other rings.
 fn share_lemma<P: Port>(
     port: &mut P,
     ring: &mut Ring,
     lits: &[Lit],
     glue: u32,
 ) -> Result<Option<Cref>, PortStop>
+    requires ticket { (P.state port.old).ticket ≡ true }
     requires usable { is_usable (P.state port.old).refused ≡ true }
     requires some { 1 ≤ length lits.now }
     requires clause { IsClause (P.state port.old).vars lits.now }
@@ -231,31 +232,26 @@ fn finish_conflict<P: Port>(
     }
 }
 
-/// Learns a lemma, and goes back to where it forces its first literal, or to level 0. Nothing waits for its deletion then.
-fn learn_lemma<P: Port>(
-    port: &mut P,
-    ring: &mut Ring,
-    lits: &[Lit],
-    back: u32,
-    glue: u32,
-    limit: u64,
-) -> Next
+/// Draws a ticket, learns a lemma with it, and goes back to where it forces its first literal, or to level 0. Nothing waits for its
+/// deletion then. If all tickets have been drawn nothing is learned, and that is the end.
+fn learn_lemma<P: Port>(port: &mut P, ring: &mut Ring, lits: &[Lit], back: u32, glue: u32) -> Next
     requires search { InSearch (P.state port.old) ring.old }
-    requires below { ring.old.learned < limit }
+    requires draws { CanDraw (P.state port.old) ring.old.learned }
     requires decides { Decides (P.state port.old) ring.old.decider }
-    requires paced { IsPaced ring.old.restarts ring.old.learned limit }
+    requires paced { IsPaced ring.old.restarts ring.old.learned }
     requires offering { IsOffering (P.state port.old) ring.old }
     requires lemma { IsAsserting (P.state port.old) ring.old.trail lits.now back }
-    ensures comes { ComesOf (P.state port.old) (P.state port.new) ring.old ring.new lits.now back glue limit result }
+    ensures comes { CameOfDraw (P.state port.old) (P.state port.new) ring.old ring.new lits.now back glue result }
     ensures port { IsPort (P.state port.new) }
 {
+    match port.draw() {
+        Drawn::Ticket => {}
+        Drawn::Gone => return Next::Finish(End::Spent),
+    }
     let address = match share_lemma(port, ring, lits, glue) {
         Ok(address) => address,
         Err(stop) => return Next::Finish(end_refused(stop)),
     };
-    if ring.learned == limit {
-        return Next::Finish(End::Spent);
-    }
     finish_conflict(port, ring, lits, back, address)
 }
 
@@ -265,24 +261,23 @@ pub(crate) fn learn_from<P: Port>(
     ring: &mut Ring,
     analysis: &mut Analysis,
     conflict: Cref,
-    limit: u64,
 ) -> Next
     requires search { InSearch (P.state port.old) ring.old }
-    requires below { ring.old.learned < limit }
+    requires draws { CanDraw (P.state port.old) ring.old.learned }
     requires decides { Decides (P.state port.old) ring.old.decider }
-    requires paced { IsPaced ring.old.restarts ring.old.learned limit }
+    requires paced { IsPaced ring.old.restarts ring.old.learned }
     requires offering { IsOffering (P.state port.old) ring.old }
     requires listed { HasLemmas (P.state port.old) ring.old }
     requires vars { analysis.old.vars ≡ ring.old.trail.vars }
     requires conflict { IsConflict ring.old.watches (lits_at (P.state port.old)) ring.old.trail conflict }
-    ensures leads { Leads (P.state port.old) ring.old (P.state port.new) ring.new limit result }
-    ensures more { result ≡ Next.Go → ring.new.learned ≡ ring.old.learned + 1 }
+    ensures leads { Leads (P.state port.old) ring.old (P.state port.new) ring.new result }
+    ensures drawn { result ≡ Next.Go → (P.state port.old).found < (P.state port.new).found }
     ensures learns { LearnsFrom (P.state port.old) (P.state port.new) ring.old ring.new conflict analysis.new.lits result }
     ensures tidied { HasTidied (P.state port.new) result }
     ensures listed { result ≡ Next.Go → HasLemmas (P.state port.new) ring.new }
     ensures stored { HoldsByGlue (P.state port.old) (P.state port.new) ring.old.trail.steps }
     ensures looks { KeepsLooking (P.state port.old) ring.old (P.state port.new) ring.new result }
-    ensures paced { IsPaced ring.new.restarts ring.new.learned limit }
+    ensures paced { IsPaced ring.new.restarts ring.new.learned }
     ensures polls { KeepsPolling (P.state port.old) ring.old (P.state port.new) ring.new result }
     ensures imports { KeepsImporting (P.state port.old) ring.old (P.state port.new) ring.new result }
     ensures above { result ≡ Next.Go → 0 < ring.old.trail.level }
@@ -301,7 +296,7 @@ pub(crate) fn learn_from<P: Port>(
             if bump_analyzed(&mut ring.decider, analyzed, &mut ring.bumps).is_err() {
                 return Next::Finish(End::Memory);
             }
-            learn_lemma(port, ring, analysis.lits(), back, glue, limit)
+            learn_lemma(port, ring, analysis.lits(), back, glue)
         }
     }
 }

@@ -213,12 +213,13 @@ pub(crate) fn reduce_vivify_import<P: Port>(alloc: Global, port: &mut P, ring: &
     requires listed { HasLemmas (P.state port.old) ring.old }
     requires few { ring.old.reductions < 2 ^ 64 - 1 }
     requires import_due { ring.old.import_due ≡ true }
-    ensures leads { (limit : ℕ) → ring.old.learned < limit → Leads (P.state port.old) ring.old (P.state port.new) ring.new limit result }
+    ensures leads { Leads (P.state port.old) ring.old (P.state port.new) ring.new result }
     ensures refused { IsOnOrRefused result }
     ensures halts { HaltsBy (HaltsRenewing (P.state port.old) (P.state port.new) ring.old) result }
     ensures settled { result ≡ Next.Go → ring.new.import_due ≡ false }
     ensures renewed { result ≡ Next.Go → HasRenewed (P.state port.old) (P.state port.new) ring.old ring.new }
     ensures unlooked { (P.state port.new).looks ≡ (P.state port.old).looks }
+    ensures undrawn { result ≡ Next.Go → (P.state port.new).found ≡ (P.state port.old).found }
     ensures steps { result ≡ Next.Go → length ring.old.trail.steps ≤ length ring.new.trail.steps }
     ensures polls { HasPolledBy (P.state port.new) ring.new result }
     ensures imports { KeepsImporting (P.state port.old) ring.old (P.state port.new) ring.new result }

@@ -4,7 +4,7 @@ ghost use Rattle.ring_port.specs.PortState.{PortState, IsPort, HoldsStart, lits_
 ghost use Rattle.ring_trail.specs.TrailData.{TrailData, IsTrail};
 ghost use Rattle.watch_prop.specs.WatchData.{attached};
 ghost use Rattle.watch_prop.specs.Watched.{Watched, IsFresh};
-ghost use Rattle.ring_run.specs.Ended.{IsJobOf, IsUntouched, Stays, IsOwn, IsCounted, HasOffered, HasRestarted, HasPolled, ImportsBy, IsTidy, ReducesBy, AreNew, AreNewLines, AreSpaced, AreTimely, HoldsGlued, HoldsRecent, HasLooked, last_looks, stop_kind, Cause, Ends};
+ghost use Rattle.ring_run.specs.Ended.{IsJobOf, IsUntouched, Stays, IsOwn, IsCounted, HasOffered, HasRestarted, HasDrawnFor, TicketsAt, HasPolled, ImportsBy, IsTidy, ReducesBy, AreNew, AreNewLines, AreSpaced, AreTimely, HoldsGlued, HoldsRecent, HasLooked, last_looks, stop_kind, Cause, Ends};
 ghost use Rattle.ring_run.specs.Searching.{IsHeldBy, OffersNothing};
 ghost use Rattle.ring_decide.specs.Phases.{first_phases};
 ghost use Rattle.restart_plan.specs.Plan.{IsRestarting, begun};
@@ -37,14 +37,18 @@ const NOTHING: Counts = Counts {
     restarts: 0,
 };
 
-/// Runs a ring until it has an answer, sees the stop of another ring, or has learned its limit of lemmas.
+/// Runs a ring until it has an answer, sees the stop of another ring, or finds no ticket left.
 ///
 /// The port holds each start clause of the job, and has done nothing for this ring yet. Units of the opening get no line.
 /// A literal that propagation makes true without a decision gets the line of a unit before the next decision, one line.
 ///
+/// At a conflict above level 0 the ring finds a lemma, and draws a ticket of the port for it. With a ticket it learns the lemma, or is
+/// refused, which leaves the ticket in hand. If all tickets have been drawn it learns nothing and ends: it is spent, and the port
+/// stands as before but for that draw. Rings that draw from the same tickets learn no more lemmas together than there are tickets.
+///
 /// A look at the stop comes before each decision, and the ring goes on only if it found none. A lemma takes a decision
-/// back, so that no more lemmas were learned than such looks were made; a model comes after one look more. The looks
-/// count up to the last value of 64 bits.
+/// back, so that no more lemmas were learned than such looks were made; a model comes after one look more, and so does the
+/// conflict at which the ring is spent. The looks count up to the last value of 64 bits.
 ///
 /// A restart comes right after a lemma: it goes back to level 0 and not to the lemma's level. A ring of odd number restarts by
 /// Luby's sequence (Luby, Sinclair and Zuckerman 1993), the others if the glue of late is greater than on the whole.
@@ -88,13 +92,14 @@ pub fn run_ring<P: Port>(alloc: Global, port: &mut P, job: &Job) -> (End, Counts
     ensures lately { HoldsRecent (P.state port.new) }
     ensures looked { HasLooked ((P.state port.old).looks + result.1.learned + last_looks result.0) (P.state port.new) }
     ensures counts { IsCounted (P.state port.new) result.1 }
-    ensures restarted { HasRestarted (P.state port.old).ring job.now.conflicts result.1 }
+    ensures restarted { HasRestarted (P.state port.old).ring result.1 }
     ensures polled { HasPolled (P.state port.new) result.1.restarts result.0 }
     ensures imported { ImportsBy (P.state port.old) (P.state port.new) result.1.restarts result.0 }
     ensures tidied { (P.state port.old).waiting ≡ [] → IsTidy (P.state port.new) result.0 }
     ensures in_time { ReducesBy (P.state port.new) result.1 result.0 }
-    ensures within { result.1.learned ≤ job.now.conflicts }
-    ensures spent { (result.0 ≡ End.Spent) ↔ (result.1.learned ≡ job.now.conflicts) }
+    ensures drawn { HasDrawnFor (P.state port.new) result.1.learned }
+    ensures tickets { TicketsAt (P.state port.new) result.0 }
+    ensures spent { (result.0 ≡ End.Spent) ↔ ((P.state port.new).limit < (P.state port.new).found) }
     ensures ends { Ends (P.state port.new) result.0 }
     ensures ran { HasRun (P.state port.old) (P.state port.new) job.now result.0 result.1 }
     ensures port { IsPort (P.state port.new) }
@@ -108,11 +113,11 @@ fn run_job<P: Port>(alloc: Global, port: &mut P, job: &Job) -> (End, Counts)
     requires job { IsJobOf (P.state port.old) job.now }
     requires untouched { IsUntouched (P.state port.old) }
     requires port { IsPort (P.state port.old) }
-    ensures ends { ComesTo (P.state port.old) (P.state port.new) result.1.learned job.now.conflicts result.0 }
+    ensures ends { ComesTo (P.state port.old) (P.state port.new) result.1.learned result.0 }
     ensures looked { HasLooked ((P.state port.old).looks + result.1.learned + last_looks result.0) (P.state port.new) }
     ensures ran { RanJob (P.state port.old) (P.state port.new) job.now result.0 result.1 }
     ensures offers { HasOffered (P.state port.new) result.1.exported result.1.offered }
-    ensures restarted { HasRestarted (P.state port.old).ring job.now.conflicts result.1 }
+    ensures restarted { HasRestarted (P.state port.old).ring result.1 }
     ensures polled { HasPolled (P.state port.new) result.1.restarts result.0 }
     ensures imported { ImportsBy (P.state port.old) (P.state port.new) result.1.restarts result.0 }
     ensures tidied { (P.state port.old).waiting ≡ [] → IsTidy (P.state port.new) result.0 }
@@ -251,7 +256,7 @@ fn set_stop<P: Port>(port: &mut P, end: End) -> End
     requires port { IsPort (P.state port.old) }
     ensures ends { Ends (P.state port.new) result }
     ensures runs { KeepsRuns (P.state port.old) (P.state port.new) }
-    ensures spent { (result ≡ End.Spent) ↔ (end ≡ End.Spent) }
+    ensures tickets { TicketsAt (P.state port.old) end → TicketsAt (P.state port.new) result }
     ensures looks { (P.state port.new).looks ≡ (P.state port.old).looks }
     ensures nothing { OffersNothing (P.state port.old) (P.state port.new) }
     ensures looked { last_looks result ≤ last_looks end }

@@ -1,10 +1,10 @@
 // The search: it propagates, and then learns or decides, until an end.
-ghost use Rattle.std.specs.Prelude.{◌≡◌, ◌<◌, ◌+◌, ℕ, [], true};
+ghost use Rattle.std.specs.Prelude.{◌≡◌, ◌+◌, ℕ, [], true};
 ghost use Rattle.ring_port.specs.PortState.{PortState, IsPort};
 ghost use Rattle.ring_run.specs.Walked.{IsFound};
 ghost use Rattle.ring_run.specs.Ended.{IsJobOf, HasLooked, HasPolled, ImportsBy, IsTidy, IsInTime, last_looks};
 ghost use Rattle.ring_run.specs.Strategy.{Decides, IsPaced};
-ghost use Rattle.ring_run.specs.Searching.{GoesOn};
+ghost use Rattle.ring_run.specs.Searching.{CanDraw, GoesOn};
 ghost use Rattle.ring_run.specs.Ending.{ComesTo};
 ghost use Rattle.ring_run.specs.Turn.{TakesTurn, Searched};
 ghost use Rattle.ring_run.specs.Course.{IsOffering, InSearch, HasLemmas, MayImport, Leads, IsFurther, IsLooking, KeepsLooking, IsPolling, HasPolledBy, IsImporting, KeepsImporting, KeepsTidy, IsInTimeAt, KeepsInTime, SumsUp};
@@ -28,22 +28,21 @@ fn search_step<P: Port>(
     port: &mut P,
     ring: &mut Ring,
     analysis: &mut Analysis,
-    limit: u64,
     model: &Option<Assignment>,
 ) -> Next
     requires search { InSearch (P.state port.old) ring.old }
-    requires below { ring.old.learned < limit }
+    requires draws { CanDraw (P.state port.old) ring.old.learned }
     requires decides { Decides (P.state port.old) ring.old.decider }
-    requires paced { IsPaced ring.old.restarts ring.old.learned limit }
+    requires paced { IsPaced ring.old.restarts ring.old.learned }
     requires offering { IsOffering (P.state port.old) ring.old }
     requires polling { IsPolling (P.state port.old) ring.old }
     requires listed { HasLemmas (P.state port.old) ring.old }
     requires vars { analysis.old.vars ≡ ring.old.trail.vars }
     requires found { IsFound (P.state port.old) model.now }
-    ensures leads { Leads (P.state port.old) ring.old (P.state port.new) ring.new limit result }
-    ensures further { result ≡ Next.Go → IsFurther ring.old ring.new }
+    ensures leads { Leads (P.state port.old) ring.old (P.state port.new) ring.new result }
+    ensures further { result ≡ Next.Go → IsFurther (P.state port.old) ring.old (P.state port.new) ring.new }
     ensures looks { KeepsLooking (P.state port.old) ring.old (P.state port.new) ring.new result }
-    ensures paced { IsPaced ring.new.restarts ring.new.learned limit }
+    ensures paced { IsPaced ring.new.restarts ring.new.learned }
     ensures offering { IsOffering (P.state port.new) ring.new }
     ensures polls { HasPolledBy (P.state port.new) ring.new result }
     ensures imports { KeepsImporting (P.state port.old) ring.old (P.state port.new) ring.new result }
@@ -63,8 +62,8 @@ fn search_step<P: Port>(
     };
     let _lawful = ring.trail.decision_level();
     match propagated {
-        Propagated::Conflict(conflict) => learn_from(port, ring, analysis, conflict, limit),
-        Propagated::Quiet => decide_next(alloc, port, ring, limit, model),
+        Propagated::Conflict(conflict) => learn_from(port, ring, analysis, conflict),
+        Propagated::Quiet => decide_next(alloc, port, ring, model),
     }
 }
 
@@ -80,17 +79,16 @@ pub(crate) fn search<P: Port>(
     requires import { MayImport (P.state port.old) ring.old.trail ring.old.watches ring.old.written }
     requires import_due { ring.old.import_due ≡ true }
     requires goes { GoesOn (P.state port.old) (P.state port.old) ring.old.learned }
-    requires below { ring.old.learned < job.now.conflicts }
     requires decides { Decides (P.state port.old) ring.old.decider }
-    requires paced { IsPaced ring.old.restarts ring.old.learned job.now.conflicts }
+    requires paced { IsPaced ring.old.restarts ring.old.learned }
     requires offering { IsOffering (P.state port.old) ring.old }
     requires polling { IsPolling (P.state port.old) ring.old }
     requires listed { HasLemmas (P.state port.old) ring.old }
     requires vars { analysis.old.vars ≡ ring.old.trail.vars }
     requires job { IsJobOf (P.state port.old) job.now }
-    ensures ends { ComesTo (P.state port.old) (P.state port.new) ring.new.learned job.now.conflicts result }
+    ensures ends { ComesTo (P.state port.old) (P.state port.new) ring.new.learned result }
     ensures looks { (base : ℕ) → IsLooking base (P.state port.old) ring.old → HasLooked (base + ring.new.learned + last_looks result) (P.state port.new) }
-    ensures paced { IsPaced ring.new.restarts ring.new.learned job.now.conflicts }
+    ensures paced { IsPaced ring.new.restarts ring.new.learned }
     ensures offering { IsOffering (P.state port.new) ring.new }
     ensures polled { HasPolled (P.state port.new) ring.new.restarts.made result }
     ensures imported { (start : PortState) → IsImporting start (P.state port.old) ring.old → ImportsBy start (P.state port.new) ring.new.restarts.made result }
@@ -108,7 +106,7 @@ pub(crate) fn search<P: Port>(
         return End::Memory;
     };
     loop {
-        if let Next::Finish(end) = search_step(alloc, port, ring, analysis, job.conflicts, &model) {
+        if let Next::Finish(end) = search_step(alloc, port, ring, analysis, &model) {
             return end;
         }
     }

@@ -60,6 +60,7 @@ new_data o = record {
   starts = o.starts;
   first = o.units;
   depth = o.depth;
+  limit = o.limit;
   journal = [];
   lines = [];
   cells = map (start_stored o.rings) o.starts;
@@ -68,12 +69,13 @@ new_data o = record {
   units = o.units;
   turn = None;
   stop = None;
+  drawn = 0;
 }
 
 pub new_shown : (o : CoreOpening) (d : CoreData) → o.journal ≡ [] → d ≡ new_data o → state_of d ≡ opened o
 new_shown o d none is = ap state_of is ∙ states_same (state_of (new_data o)) (opened o)
-    (let e = count_all o.rings no_ring in λ i. record { formula = o.formula; rings = e i; depth = o.depth; journal = sym none i; starts = o.starts; units = o.units })
-    (sym none) (cells_open o.rings o.starts) (λ r. ap (λ (x : RingState). x.granted) (same_all o.rings no_ring r)) (λ r. ap (part_of r []) (same_all o.rings no_ring r)) (λ k. same_all (4 * (o.rings * o.rings) * o.depth) 0 k) refl refl refl
+    (let e = count_all o.rings no_ring in λ i. record { formula = o.formula; rings = e i; depth = o.depth; journal = sym none i; starts = o.starts; units = o.units; limit = o.limit })
+    (sym none) (cells_open o.rings o.starts) (λ r. ap (λ (x : RingState). x.granted) (same_all o.rings no_ring r)) (λ r. ap (part_of r []) (same_all o.rings no_ring r)) (λ k. same_all (4 * (o.rings * o.rings) * o.depth) 0 k) refl refl refl refl
 
 pub new_kept : (o : CoreOpening) (d : CoreData) → IsCoreOpening o → o.journal ≡ [] → d ≡ new_data o → Kept d
 new_kept o d op none is = record {

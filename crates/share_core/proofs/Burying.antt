@@ -21,6 +21,7 @@ use Rattle.share_core.proofs.Slots.{puts_same, slots_kept}
 use Rattle.share_core.proofs.Own.{owned_more}
 use Rattle.share_core.proofs.Whole.{whole_buried}
 use Rattle.share_core.proofs.Frames.{journal_more, fresh_more, stop_more, cells_kept, part_moves, same_here, same_else, units_written}
+use Rattle.share_core.proofs.Tickets.{tickets_noted}
 
 pub buries : (c : State) (r a : ℕ) → Sound c → IsEnabled c (Bury r a) → Sound (after c (Bury r a))
 buries c r a s e =
@@ -87,4 +88,5 @@ buries c r a s e =
       units = units_written c r p (Del r n) s (s.units.seen r);
       turns = s.turns;
       stops = stop_more F J R c.stop (Del r n) s.stops;
+      tickets = tickets_noted c.opening c.drawn c.part r p s.tickets (length J) (Del r n) refl refl refl refl;
     }

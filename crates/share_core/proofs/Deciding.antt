@@ -15,7 +15,7 @@ use Rattle.rup_model.specs.Opening.{IsLong}
 use Rattle.sat_words.specs.declared.shared.TheConstants.{MAX_ENTRIES}
 use Rattle.share_core.specs.declared.event.TheConstants.{MAX_SHARES}
 use Rattle.share_core.specs.declared.event.Event.{Event}
-use Rattle.share_core.specs.declared.event.Event.TheVariants.{Grant, TakeTurn, GiveTurn, AddClause, AddUnit, AddEmpty, Reduce, OpenCell, Read, Share, DropCount, Bury, Put, Get, Publish, See, Stop}
+use Rattle.share_core.specs.declared.event.Event.TheVariants.{Grant, TakeTurn, GiveTurn, AddClause, AddUnit, AddEmpty, Reduce, OpenCell, Read, Share, DropCount, Bury, Put, Get, Publish, See, Stop, Draw}
 use Rattle.share_core.specs.declared.stored.ClauseAt.{ClauseAt}
 use Rattle.share_core.specs.State.{times_at, State}
 use Rattle.share_core.specs.Learning.{MayAddClause, MayAddUnit}
@@ -141,6 +141,7 @@ decides c (See r) = both _ _ _ _ (below r c.opening.rings) (below (length (c.par
 decides c (Stop r kind) = other _ _ _
     (both _ _ _ _ (below r c.opening.rings) (both _ _ _ _ (at_most 1 kind) (both _ _ _ _ (at_most kind 5) (implied kind (ended c.opening.formula c.journal)))))
     (λ h. (h.0, h.1.0, h.1.1.0, h.1.1.1)) (λ h. (h.0, (h.1, (h.2, h.3))))
+decides c (Draw r) = other _ _ _ (both _ _ _ _ (below r c.opening.rings) (both _ _ _ _ (negated (c.part r).ticket) (at_most (c.part r).found c.opening.limit))) (λ h. (h.0, h.1.0, h.1.1)) (λ h. (h.0, (h.1, h.2)))
 
 pub enabled_from : (c : State) (e : Event) → is_enabled c e ≡ true → IsEnabled c e
 enabled_from c e h = (decides c e).yes h

@@ -17,6 +17,7 @@ use Rattle.share_core.proofs.Copies.{keeps_same}
 use Rattle.share_core.proofs.Slots.{puts_same, slots_put, slots_got}
 use Rattle.share_core.proofs.Own.{owned_same}
 use Rattle.share_core.proofs.Frames.{same_here, same_else, part_slots, copies_put, units_part, clause_is}
+use Rattle.share_core.proofs.Tickets.{tickets_put}
 
 -- Grants
 
@@ -67,6 +68,7 @@ grants c r s e =
       units = units_part c r p s (s.units.seen r);
       turns = s.turns;
       stops = s.stops;
+      tickets = tickets_put c.opening c.drawn c.part r p s.tickets refl refl (λ t. t);
     }
 
 -- a part that takes the old address of a slot, and gives a new one
@@ -123,6 +125,7 @@ puts c r to k l a s e =
       units = units_part c r p s (s.units.seen r);
       turns = s.turns;
       stops = s.stops;
+      tickets = tickets_put c.opening c.drawn c.part r p s.tickets refl refl (λ t. t);
     }
 
 pub gets : (c : State) (r from k l : ℕ) → Sound c → IsEnabled c (Get r from k l) → Sound (after c (Get r from k l))
@@ -148,4 +151,5 @@ gets c r from k l s e =
       units = units_part c r p s (s.units.seen r);
       turns = s.turns;
       stops = s.stops;
+      tickets = tickets_put c.opening c.drawn c.part r p s.tickets refl refl (λ t. t);
     }

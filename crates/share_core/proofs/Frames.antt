@@ -95,7 +95,7 @@ cells_same c e s same_low =
 -- nothing that is counted changes
 pub counts_same : (o : CoreOpening) (c d : State) → Counts o c → Path (ℕ → Option Cell) d.cell c.cell → Path (ℕ → Bool) d.granted c.granted → Path (ℕ → Part) d.part c.part → Path (ℕ → ℕ) d.slot c.slot → Counts o d
 counts_same o c d s dc dg dp ds = subst (λ (q : State). Counts o q)
-    (λ j. record { opening = d.opening; journal = d.journal; cell = sym dc j; granted = sym dg j; part = sym dp j; slot = sym ds j; units = d.units; turn = d.turn; stop = d.stop })
+    (λ j. record { opening = d.opening; journal = d.journal; cell = sym dc j; granted = sym dg j; part = sym dp j; slot = sym ds j; units = d.units; turn = d.turn; stop = d.stop; drawn = d.drawn })
     (record { counts = s.counts; waits = s.waits; making = s.making; makes = s.makes; nowhere = s.nowhere; addresses = s.addresses; few = s.few; bounded = s.bounded; named = s.named })
 
 -- one part and cells change

@@ -6,6 +6,7 @@ pub mod Own
 pub mod Knowing
 pub mod Whole
 pub mod Frames
+pub mod Tickets
 pub mod Writing
 pub mod Burying
 pub mod Recounting

@@ -8,14 +8,15 @@ use Rattle.rup_model.specs.Journal.{is_told}
 use Rattle.rup_model.proofs.Lists.{In, In_has, has_In, In_append}
 use Rattle.rup_model.proofs.Sums.{at_put}
 use Rattle.share_core.specs.declared.event.Stop.{Stop as StopWord}
-use Rattle.share_core.specs.declared.event.Event.TheVariants.{Publish, See, Stop}
+use Rattle.share_core.specs.declared.event.Event.TheVariants.{Publish, See, Stop, Draw}
 use Rattle.share_core.specs.State.{Part, State}
 use Rattle.share_core.specs.Enabled.{IsEnabled}
-use Rattle.share_core.specs.Events.{unit_at, seen_part, first_stop, after}
+use Rattle.share_core.specs.Events.{unit_at, seen_part, drew_part, first_stop, after}
 use Rattle.share_core.specs.Sound.{Sound}
 use Rattle.share_core.proofs.Counting.{some_same}
 use Rattle.share_core.proofs.Own.{owned_same}
 use Rattle.share_core.proofs.Frames.{counts_same, part_only, part_slots, copies_put, units_part}
+use Rattle.share_core.proofs.Tickets.{tickets_put, tickets_drawn}
 
 -- The list of units
 
@@ -73,6 +74,7 @@ publishes c r l s e =
       };
       turns = s.turns;
       stops = s.stops;
+      tickets = tickets_put c.opening c.drawn c.part r p s.tickets refl refl (λ t. t);
     }
 
 pub sees : (c : State) (r : ℕ) → Sound c → IsEnabled c (See r) → Sound (after c (See r))
@@ -93,6 +95,7 @@ sees c r s e =
       units = units_part c r p s (let h = s.units.seen r in next_unit c.units (c.part r).seen h.0 h.1 e.1);
       turns = s.turns;
       stops = s.stops;
+      tickets = tickets_put c.opening c.drawn c.part r p s.tickets refl refl (λ t. t);
     }
 
 -- The stop
@@ -121,6 +124,7 @@ stops c r kind s e =
         refuted = λ t is k. ⊎_elim (λ (q : c.stop ≡ Some t). s.stops.refuted t q k) (λ (q : new ≡ t). e.3 (ap (λ (z : StopWord). z.kind) q ∙ k)) (first_or c.stop new t is);
         kinds = λ t is. ⊎_elim (λ (q : c.stop ≡ Some t). s.stops.kinds t q) (λ (q : new ≡ t). subst (λ (z : StopWord). (1 ≤ z.kind) × (z.kind ≤ 5) × (z.ring < c.opening.rings)) q (e.1, e.2, e.0)) (first_or c.stop new t is);
       };
+      tickets = s.tickets;
     }
 
 -- The turn
@@ -140,4 +144,28 @@ turns c t s rings = record {
   units = s.units;
   turns = rings;
   stops = s.stops;
+  tickets = s.tickets;
 }
+
+-- Tickets
+
+pub draws : (c : State) (r : ℕ) → Sound c → IsEnabled c (Draw r) → Sound (after c (Draw r))
+draws c r s e =
+    let d : State = after c (Draw r) in
+    let p : Part = drew_part c.opening.limit c.drawn (c.part r) in
+    record {
+      opens = s.opens;
+      counts = part_only c d r p s e.0 refl refl refl refl refl refl refl refl (s.counts.named r);
+      starts = s.starts;
+      copies = copies_put c r p s (s.copies.held r e.0) (s.copies.making r e.0) (s.copies.waiting r e.0);
+      cells = s.cells;
+      whole = s.whole;
+      slots = part_slots c d r p s refl refl refl;
+      log = s.log;
+      entries = owned_same c.opening c r p s.entries refl;
+      freshness = s.freshness;
+      units = units_part c r p s (s.units.seen r);
+      turns = s.turns;
+      stops = s.stops;
+      tickets = tickets_drawn c.opening c.drawn c.part r s.tickets e.0 e.1 e.2;
+    }

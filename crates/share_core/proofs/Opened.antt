@@ -31,6 +31,7 @@ use Rattle.share_core.specs.Sound.{idle_at, Counts, IsOpenCopy, Sound}
 use Rattle.share_core.proofs.ClauseLists.{at_in, in_at, all_in, all_map}
 use Rattle.share_core.proofs.Counting.{some_same, none_some, cell_cases, not_made, idle_open}
 use Rattle.share_core.proofs.Exchanging.{starts_zero}
+use Rattle.share_core.proofs.Tickets.{tickets_none}
 use Rattle.share_core.proofs.Steps.{event_sound, event_grows, event_opening}
 
 -- Start cells
@@ -183,6 +184,7 @@ module _ (o : CoreOpening) (op : IsCoreOpening o) where
         units = record { told = λ l h. all_in (λ (q : Literal). is_told o.formula o.journal q ≡ true) o.units l (has_In o.units l h) op.opens.told; distinct = op.opens.distinct; seen = λ r. (o.units, refl) };
         turns = λ r is. absurd (none_some r is);
         stops = record { refuted = λ s is k. absurd (none_some s is); kinds = λ s is. absurd (none_some s is) };
+        tickets = tickets_none o;
       }
     where
       nothing : {X : Type 0} (P : X → Type 0) → All P []

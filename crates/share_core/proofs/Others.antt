@@ -6,7 +6,7 @@ use Rattle.rup_model.specs.Basics.{put, one_if}
 use Rattle.rup_model.proofs.Lists.{In}
 use Rattle.rup_model.proofs.Sums.{at_put, put_else}
 use Rattle.share_core.specs.declared.event.Event.{Event}
-use Rattle.share_core.specs.declared.event.Event.TheVariants.{Grant, TakeTurn, GiveTurn, AddClause, AddUnit, AddEmpty, Reduce, OpenCell, Read, Share, DropCount, Bury, Put, Get, Publish, See, Stop}
+use Rattle.share_core.specs.declared.event.Event.TheVariants.{Grant, TakeTurn, GiveTurn, AddClause, AddUnit, AddEmpty, Reduce, OpenCell, Read, Share, DropCount, Bury, Put, Get, Publish, See, Stop, Draw}
 use Rattle.share_core.specs.declared.event.Stop.{Stop as StopWord}
 use Rattle.share_core.specs.State.{Part, State}
 use Rattle.share_core.specs.Events.{first_stop, unit_at, seen_part, shared_part, after}
@@ -35,6 +35,7 @@ event_else c i (Get r from k l) ne = put_else c.part r _ i (λ q. ne (sym q))
 event_else c i (Publish r l) ne = put_else c.part r _ i (λ q. ne (sym q))
 event_else c i (See r) ne = put_else c.part r _ i (λ q. ne (sym q))
 event_else c i (Stop r kind) ne = refl
+event_else c i (Draw r) ne = put_else c.part r _ i (λ q. ne (sym q))
 
 pub event_grant : (c : State) (i : ℕ) (e : Event) → ring_of e ≢ i → (after c e).granted i ≡ c.granted i
 event_grant c i (Grant r) ne = put_else c.granted r true i (λ q. ne (sym q))
@@ -54,6 +55,7 @@ event_grant c i (Get r from k l) ne = refl
 event_grant c i (Publish r l) ne = refl
 event_grant c i (See r) ne = refl
 event_grant c i (Stop r kind) ne = refl
+event_grant c i (Draw r) ne = refl
 
 -- none of the list is the ring's
 abbrev pub Others : ℕ → List Event → Type 0
@@ -90,6 +92,7 @@ event_stop c s (Get r from k l) is = is
 event_stop c s (Publish r l) is = is
 event_stop c s (See r) is = is
 event_stop c s (Stop r kind) is = ap (λ (q : Option StopWord). first_stop q (record { kind = kind; ring = r })) is
+event_stop c s (Draw r) is = is
 
 pub run_stop : (s : StopWord) (es : List Event) (c : State) → c.stop ≡ Some s → (fold after c es).stop ≡ Some s
 run_stop s [] c is = is
@@ -115,6 +118,7 @@ stop_set c s (See r) none is = absurd (none_some s (sym none ∙ is))
 stop_set c s (Stop r kind) none is =
     let new : StopWord = record { kind = kind; ring = r } in
     ap (λ (q : StopWord). Stop q.ring q.kind) (some_same new s (sym (ap (λ (q : Option StopWord). first_stop q new) none) ∙ is))
+stop_set c s (Draw r) none is = absurd (none_some s (sym none ∙ is))
 
 -- Units
 
@@ -145,6 +149,7 @@ event_units c (Get r from k l) = grows_none c.units
 event_units c (Publish r l) = (l ∷ [], refl)
 event_units c (See r) = grows_none c.units
 event_units c (Stop r kind) = grows_none c.units
+event_units c (Draw r) = grows_none c.units
 
 pub run_units : (es : List Event) (c : State) → (more : List Literal) × ((fold after c es).units ≡ c.units ++ more)
 run_units [] c = grows_none c.units
@@ -174,6 +179,7 @@ event_seen c i (Get r from k l) = seen_put c r i _ (grows_none (c.part r).seen)
 event_seen c i (Publish r l) = seen_put c r i (seen_part l (c.part r)) (l ∷ [], refl)
 event_seen c i (See r) = let l : Literal = unit_at c.units (length (c.part r).seen) in seen_put c r i (seen_part l (c.part r)) (l ∷ [], refl)
 event_seen c i (Stop r kind) = grows_none (c.part i).seen
+event_seen c i (Draw r) = seen_put c r i _ (grows_none (c.part r).seen)
 
 pub run_seen : (i : ℕ) (es : List Event) (c : State) → (more : List Literal) × (((fold after c es).part i).seen ≡ (c.part i).seen ++ more)
 run_seen i [] c = grows_none (c.part i).seen
@@ -210,6 +216,7 @@ event_shared c i (Get r from k l) = none_shared c r i _ refl
 event_shared c i (Publish r l) = none_shared c r i _ refl
 event_shared c i (See r) = none_shared c r i _ refl
 event_shared c i (Stop r kind) = omega arith
+event_shared c i (Draw r) = none_shared c r i _ refl
 
 pub run_shared : (i : ℕ) (es : List Event) (c : State) → ((fold after c es).part i).shared ≡ (c.part i).shared + count_by (shares i) es
 run_shared i [] c = omega arith

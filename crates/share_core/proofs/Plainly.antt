@@ -10,8 +10,9 @@ use Rattle.rup_model.specs.declared.journal.Addition.{Addition}
 use Rattle.rup_model.specs.declared.journal.Entry.{Entry}
 use Rattle.rup_model.specs.declared.journal.Entry.TheVariants.{Add, Del, Reduce}
 use Rattle.rup_model.specs.Basics.{put, one_if}
-use Rattle.rup_model.specs.Journal.{additions, deletion, Book, formula_book, spelled, book_after, book, IsFit, Fits, ring_of, is_learn, is_ring, recent_after, recent}
+use Rattle.rup_model.specs.Journal.{additions, deletion, Book, formula_book, spelled, book_after, book, IsFit, Fits, ring_of, is_learn, learned, is_ring, recent_after, recent}
 use Rattle.rup_model.proofs.Lists.{In, In_Contains}
+use Rattle.rup_model.proofs.Additions.{learned-append}
 use Rattle.rup_model.proofs.Parts.{rulers_recent}
 use Rattle.rup_model.proofs.Sums.{at_put, put_else}
 use Rattle.rup_model.proofs.Sequences.{EachState, to_states}
@@ -88,7 +89,7 @@ sound_plain c s = record {
     there : (a : ℕ) (x : Cell) → c.cell a ≡ Some x → a ≢ 0
     there a x is e = none_some x (sym s.counts.nowhere ∙ ap c.cell (sym e) ∙ is)
 
--- What a ring learned since its last Reduce is told by its own entries
+-- What a ring learned, in all and since its last Reduce, is told by its own entries
 
 other_entry : (r : ℕ) (e : Entry) (cs : List (List Literal)) → (ring_of e == r) ≡ false → recent_after r cs e ≡ cs
 other_entry r (Add x) cs h = by ((x.ring == r) && is_learn x.kind) (λ j. h j && is_learn x.kind)
@@ -97,6 +98,20 @@ other_entry r (Add x) cs h = by ((x.ring == r) && is_learn x.kind) (λ j. h j &&
     by b q = ap (λ (t : Bool). cs ++ map (λ (y : Addition). y.lits) (cond t (x ∷ []) [])) q ∙ append-nil cs
 other_entry r (Del q n) cs h = append-nil cs
 other_entry r (Reduce q) cs h = (λ j. cond (h j) [] (cs ++ [])) ∙ append-nil cs
+
+learned_else : (r : ℕ) (e : Entry) → (ring_of e == r) ≡ false → learned r (e ∷ []) ≡ []
+learned_else r (Add x) h = other_entry r (Add x) [] h
+learned_else r (Del q n) h = refl
+learned_else r (Reduce q) h = refl
+
+pub learned_own : (r i : ℕ) (J : List Entry) → learned r J ≡ learned r (map (λ (p : Placed). p.entry) (placed r i J))
+learned_own r i [] = refl
+learned_own r i (e ∷ J) = learned-append r (e ∷ []) J ∙ by (ring_of e == r) refl (learned_own r (i + 1) J)
+  where
+    by : (b : Bool) → (ring_of e == r) ≡ b → learned r J ≡ learned r (map (λ (p : Placed). p.entry) (placed r (i + 1) J))
+        → learned r (e ∷ []) ++ learned r J ≡ learned r (map (λ (p : Placed). p.entry) (cond b (record { place = i; entry = e } ∷ placed r (i + 1) J) (placed r (i + 1) J)))
+    by true q h = ap (λ (cs : List (List Literal)). learned r (e ∷ []) ++ cs) h ∙ sym (learned-append r (e ∷ []) (map (λ (p : Placed). p.entry) (placed r (i + 1) J)))
+    by false q h = ap (λ (cs : List (List Literal)). cs ++ learned r J) (learned_else r e q) ∙ h
 
 recent_from : (r i : ℕ) (J : List Entry) (cs : List (List Literal)) → fold (recent_after r) cs J ≡ fold (recent_after r) cs (map (λ (p : Placed). p.entry) (placed r i J))
 recent_from r i [] cs = refl

@@ -7,12 +7,11 @@ use Rattle.sat_words.specs.Literal.{Literal, same}
 use Rattle.sat_words.specs.Clause.{has, is_empty, same_set, includes}
 use Rattle.rup_model.specs.declared.journal.Entry.{Entry}
 use Rattle.rup_model.specs.declared.journal.Entry.TheVariants.{Add, Del, Reduce}
-use Rattle.rup_model.specs.Journal.{added, additions, Book, formula_book, book_after, book, ended, is_told, recent_after, recent}
+use Rattle.rup_model.specs.Journal.{added, additions, Book, formula_book, book_after, book, ended, is_told, recent_after, recent, fresh}
 use Rattle.rup_model.proofs.Sequences.{fold_last}
 use Rattle.rup_model.specs.Opening.{Start, start_clauses}
 use Rattle.share_core.specs.declared.stored.ClauseAt.{ClauseAt}
 use Rattle.share_core.specs.State.{CoreOpening, opening_of, Part}
-use Rattle.share_core.specs.Learning.{may_learn}
 use Rattle.share_core.specs.Machine.{adds}
 
 -- the items up to the next
@@ -70,7 +69,7 @@ next_few F J = from (formula_book F) J
     from b (Reduce q ∷ K) = let r = from (book_after b (Reduce q)) K in omega arith
 
 -- what may be learned includes neither a start clause nor what the ring learned
-pub learn_parts : (o : CoreOpening) (J : List Entry) (p : Part) (r : ℕ) (lits : List Literal) → may_learn o J p r lits ≡ not (list_any (λ (h : ClauseAt). includes lits h.lits) o.starts || list_any (includes lits) (recent r J))
+pub learn_parts : (o : CoreOpening) (J : List Entry) (p : Part) (r : ℕ) (lits : List Literal) → fresh (start_clauses (opening_of o)) J r lits ≡ not (list_any (λ (h : ClauseAt). includes lits h.lits) o.starts || list_any (includes lits) (recent r J))
 learn_parts o J p r lits = ap not (list_any-append (includes lits) (start_clauses (opening_of o)) (recent r J) ∙ ap (λ (b : Bool). b || list_any (includes lits) (recent r J)) (each o.starts))
   where
     each : (ss : List ClauseAt) → list_any (includes lits) (map (λ (s : Start). s.lits) (map (λ (s : ClauseAt). record { number = s.number; lits = s.lits }) ss)) ≡ list_any (λ (h : ClauseAt). includes lits h.lits) ss

@@ -16,6 +16,7 @@ use Rattle.share_core.specs.Sound.{placed}
 use Rattle.share_core.specs.Machine.{CoreData, state_of, cell_in, Kept}
 use Rattle.share_core.proofs.Counting.{held_counted, waiting_cell, slot_below}
 use Rattle.share_core.proofs.Own.{placed_last}
+use Rattle.share_core.proofs.Tickets.{few_drawn}
 
 pub placed_here : (r : ℕ) (J : List Entry) (e : Entry) → ring_of e ≡ r → placed r 0 (J ++ e ∷ []) ≡ placed r 0 J ++ record { place = length J; entry = e } ∷ []
 placed_here r J e is = placed_last r 0 J e
@@ -41,6 +42,15 @@ count_fits d a k =
     let few = s.opens.few_rings in
     let b = s.counts.bounded a in
     let m = below_most R (2 ^ 56) (λ r. ((state_of d).part r).shared) (λ r. s.counts.few r) in
+    omega arith
+
+-- nor does the number of tickets drawn
+pub drawn_fits : (d : CoreData) → Kept d → d.drawn + 1 < 2 ^ 64
+drawn_fits d k =
+    let s = k.sound in
+    let few = s.opens.few_rings in
+    let small = s.opens.limited in
+    let b = few_drawn (state_of d).opening d.drawn (state_of d).part s.tickets in
     omega arith
 
 -- what a ring holds has a count

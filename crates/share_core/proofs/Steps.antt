@@ -2,7 +2,7 @@
 use Rattle.std.proofs.Common.{◌≡◌, ℕ, ◌<◌, List, [], ◌++◌, Some, None, refl, sym, subst, append-nil}
 use Rattle.rup_model.specs.declared.journal.Entry.{Entry}
 use Rattle.share_core.specs.declared.event.Event.{Event}
-use Rattle.share_core.specs.declared.event.Event.TheVariants.{Grant, TakeTurn, GiveTurn, AddClause, AddUnit, AddEmpty, Reduce, OpenCell, Read, Share, DropCount, Bury, Put, Get, Publish, See, Stop}
+use Rattle.share_core.specs.declared.event.Event.TheVariants.{Grant, TakeTurn, GiveTurn, AddClause, AddUnit, AddEmpty, Reduce, OpenCell, Read, Share, DropCount, Bury, Put, Get, Publish, See, Stop, Draw}
 use Rattle.share_core.specs.State.{State}
 use Rattle.share_core.specs.Enabled.{IsEnabled}
 use Rattle.share_core.specs.Events.{after}
@@ -12,7 +12,7 @@ use Rattle.share_core.proofs.Writing.{adds_clause, adds_unit, adds_empty, reduce
 use Rattle.share_core.proofs.Burying.{buries}
 use Rattle.share_core.proofs.Recounting.{opens_cell, shares, drops}
 use Rattle.share_core.proofs.Exchanging.{grants, puts, gets}
-use Rattle.share_core.proofs.Listing.{publishes, sees, stops, turns}
+use Rattle.share_core.proofs.Listing.{publishes, sees, stops, turns, draws}
 
 pub event_sound : (c : State) (e : Event) → Sound c → IsEnabled c e → Sound (after c e)
 event_sound c (Grant r) s e = grants c r s e
@@ -32,6 +32,7 @@ event_sound c (Get r from k l) s e = gets c r from k l s e
 event_sound c (Publish r l) s e = publishes c r l s e
 event_sound c (See r) s e = sees c r s e
 event_sound c (Stop r kind) s e = stops c r kind s e
+event_sound c (Draw r) s e = draws c r s e
 
 -- the journal only grows
 pub event_grows : (c : State) (e : Event) → (K : List Entry) × ((after c e).journal ≡ c.journal ++ K)
@@ -52,6 +53,7 @@ event_grows c (Get r from k l) = ([], sym (append-nil c.journal))
 event_grows c (Publish r l) = ([], sym (append-nil c.journal))
 event_grows c (See r) = ([], sym (append-nil c.journal))
 event_grows c (Stop r kind) = ([], sym (append-nil c.journal))
+event_grows c (Draw r) = ([], sym (append-nil c.journal))
 
 -- what the core was opened with stays
 pub event_opening : (c : State) (e : Event) → (after c e).opening ≡ c.opening
@@ -72,3 +74,4 @@ event_opening c (Get r from k l) = refl
 event_opening c (Publish r l) = refl
 event_opening c (See r) = refl
 event_opening c (Stop r kind) = refl
+event_opening c (Draw r) = refl

@@ -11,7 +11,7 @@ use Rattle.rup_model.proofs.Sequences.{EachState}
 use Rattle.sat_words.specs.declared.shared.TheConstants.{MAX_ENTRIES}
 use Rattle.share_core.specs.declared.event.TheConstants.{MAX_SHARES}
 use Rattle.share_core.specs.declared.event.Event.{Event}
-use Rattle.share_core.specs.declared.event.Event.TheVariants.{Grant, TakeTurn, GiveTurn, AddClause, AddUnit, AddEmpty, Reduce, OpenCell, Read, Share, DropCount, Bury, Put, Get, Publish, See, Stop}
+use Rattle.share_core.specs.declared.event.Event.TheVariants.{Grant, TakeTurn, GiveTurn, AddClause, AddUnit, AddEmpty, Reduce, OpenCell, Read, Share, DropCount, Bury, Put, Get, Publish, See, Stop, Draw}
 use Rattle.share_core.specs.declared.stored.Cell.{Cell}
 use Rattle.share_core.specs.State.{times_at, CoreOpening, Part, State}
 use Rattle.share_core.specs.Learning.{follows, MayAddClause, MayAddUnit}
@@ -56,6 +56,7 @@ quiet c r (Get q from k l) t ne h = record { journal = refl; units = refl; turn 
 quiet c r (Publish q l) t ne h = absurd (ne (not_two c.turn r q t h.1))
 quiet c r (See q) t ne h = record { journal = refl; units = refl; turn = t; free = λ b is. is }
 quiet c r (Stop q kind) t ne h = record { journal = refl; units = refl; turn = t; free = λ b is. is }
+quiet c r (Draw q) t ne h = record { journal = refl; units = refl; turn = t; free = λ b is. is }
 
 -- over lists
 pub run_quiet : (r : ℕ) (es : List Event) (c : State) → c.turn ≡ Some r → Others r es → EachState after IsEnabled c es
@@ -137,6 +138,10 @@ stays c d (Publish r l) o J u t p g f h = (
 )
 stays c d (See r) o J u t p g f h = (still_ring c d o J u t r p r h.0, still_units c d o J u t r p (λ (s us : List Literal). length s < length us) h.1)
 stays c d (Stop r kind) o J u t p g f h = (still_ring c d o J u t r p r h.0, h.1, h.2, λ k. still_ended c d o J u t r p true (h.3 k))
+stays c d (Draw r) o J u t p g f h = (still_ring c d o J u t r p r h.0, of_part c d o J u t r p (λ (x : Part). x.ticket ≡ false) h.1, still_limit h.2)
+  where
+    still_limit : (c.part r).found ≤ c.opening.limit → (d.part r).found ≤ d.opening.limit
+    still_limit k = subst (λ (w : CoreOpening). (d.part r).found ≤ w.limit) (sym o) (of_part c d o J u t r p (λ (x : Part). x.found ≤ c.opening.limit) k)
 
 pub run_stays : (e : Event) (es : List Event) (c : State) → c.turn ≡ Some (ring_of e) → Others (ring_of e) es → EachState after IsEnabled c es → IsEnabled c e → IsEnabled (fold after c es) e
 run_stays e [] c t others h enabled = enabled

@@ -1,5 +1,6 @@
 -- Additions and reductions keep the state sound.
-use Rattle.std.proofs.Common.{◌≡◌, ◌⊎◌, ℕ, ◌+◌, ◌<◌, ◌≤◌, true, cond, List, [], ◌∷◌, ◌++◌, length, Option, Some, refl, sym, ap, ◌∙◌, subst, inl, inr, arith, ne_eqb, true≢false}
+use Rattle.std.proofs.Common.{◌≡◌, ◌⊎◌, ℕ, ◌+◌, ◌<◌, ◌≤◌, Bool, true, cond, List, [], ◌∷◌, ◌++◌, length, Option, Some, refl, sym, ap, ◌∙◌, subst, inl, inr, arith, ne_eqb, true≢false}
+use Rattle.std.proofs.lemmas.Bool.{and_parts}
 use Rattle.sat_words.specs.Literal.{Literal}
 use Rattle.sat_words.specs.Clause.{clause_of, two_or_more}
 use Rattle.rup_model.specs.declared.journal.TheConstants.{RULER_RING}
@@ -10,7 +11,7 @@ use Rattle.rup_model.specs.declared.journal.Entry.{Entry}
 use Rattle.rup_model.specs.declared.journal.Entry.TheVariants.{Add, Reduce as ReduceEntry}
 use Rattle.rup_model.specs.Basics.{put, one_if}
 use Rattle.rup_model.specs.Log.{alive}
-use Rattle.rup_model.specs.Journal.{ring_of, Book, book_after, book, spelled, lines, is_learn, is_ring, IsFresh, IsSpaced}
+use Rattle.rup_model.specs.Journal.{ring_of, Book, book_after, book, spelled, lines, is_learn, is_ring, fresh, IsFresh, IsSpaced}
 use Rattle.rup_model.specs.Opening.{IsLong, start_clauses}
 use Rattle.rup_model.proofs.Sums.{at_put, put_here, put_else}
 use Rattle.rup_model.proofs.Numbers.{clause_below, journal_matches, book_last}
@@ -19,15 +20,16 @@ use Rattle.share_core.specs.declared.event.Event.TheVariants.{AddClause, AddUnit
 use Rattle.share_core.specs.declared.stored.ClauseAt.{ClauseAt}
 use Rattle.share_core.specs.declared.stored.Cell.{Cell}
 use Rattle.share_core.specs.State.{times_at, opening_of, Part, State, count_at, maker_at}
-use Rattle.share_core.specs.Learning.{follows, may_learn, MayAddClause, MayAddUnit}
+use Rattle.share_core.specs.Learning.{follows, may_learn, MayAddClause, MayAddUnit, ticket_after, after_learn}
 use Rattle.share_core.specs.Enabled.{Writes, IsEnabled}
 use Rattle.share_core.specs.Events.{addition_of, wrote_part, made_part, written, after}
-use Rattle.share_core.specs.Sound.{idle_at, IsCopy, CellsSound, JournalSound, Sound}
+use Rattle.share_core.specs.Sound.{idle_at, IsCopy, CellsSound, JournalSound, TicketsSound, Sound}
 use Rattle.share_core.proofs.ClauseLists.{at_both, at_here, at_else, all_last}
 use Rattle.share_core.proofs.Counting.{some_same, none_some, not_made, made_by, made_else, idle_made, starts_kept}
 use Rattle.share_core.proofs.Copies.{Keeps, lift, copies_all}
 use Rattle.share_core.proofs.Slots.{puts_same, slots_kept}
 use Rattle.share_core.proofs.Own.{owned_more}
+use Rattle.share_core.proofs.Tickets.{tickets_added, tickets_noted}
 use Rattle.share_core.proofs.Whole.{whole_more, whole_begun, few_added}
 use Rattle.share_core.proofs.Frames.{follows_alive, journal_more, fresh_more, stop_more, cells_same, part_moves, part_only, part_slots, copies_put, units_written}
 
@@ -45,6 +47,13 @@ may_fresh_unit c r Learn lits may is = may
 may_fresh_unit c r Derive lits may is = absurd may
 may_fresh_unit c r UnitLine lits may is = absurd (true≢false (sym is))
 
+-- with a ticket, and it is fresh
+may_new : (c : State) (r : ℕ) (lits : List Literal) → may_learn c.opening c.journal (c.part r) r lits ≡ true → fresh (start_clauses (opening_of c.opening)) c.journal r lits ≡ true
+may_new c r lits h = (and_parts (c.part r).ticket (fresh (start_clauses (opening_of c.opening)) c.journal r lits) h).1
+
+may_spend : (c : State) (r : ℕ) (lits : List Literal) → may_learn c.opening c.journal (c.part r) r lits ≡ true → (c.part r).ticket ≡ true
+may_spend c r lits h = (and_parts (c.part r).ticket (fresh (start_clauses (opening_of c.opening)) c.journal r lits) h).0
+
 -- Spelling
 
 -- a deletion spells a ring's clause as the ring added it
@@ -57,13 +66,14 @@ add_low : (b : Book) (x : Addition) (n : ℕ) → n < b.next → (book_after b (
 add_low b x n lt = put_else b.clause b.next _ n (λ e. omega arith)
 
 -- an entry of ring r that touches no cell
-writes : (c : State) (r : ℕ) (e : Entry) → Sound c → r < c.opening.rings → ring_of e ≡ r → JournalSound c.opening (c.journal ++ e ∷ [])
+writes : (c : State) (r : ℕ) (t : Bool) (e : Entry) → Sound c → r < c.opening.rings → ring_of e ≡ r → JournalSound c.opening (c.journal ++ e ∷ [])
     → ((n : ℕ) → n < (book c.opening.formula c.journal).next → (book_after (book c.opening.formula c.journal) e).clause n ≡ (book c.opening.formula c.journal).clause n)
     → ((n : ℕ) (k : List Literal) → two_or_more k ≡ true → (book_after (book c.opening.formula c.journal) e).clause n ≡ Some k → (book c.opening.formula c.journal).clause n ≡ Some k)
-    → IsFresh (start_clauses (opening_of c.opening)) c.journal e → IsSpaced c.journal e → Sound (written c r (c.part r) e)
-writes c r e s lt own log low few fresh spaced =
-    let d : State = written c r (c.part r) e in
-    let p : Part = wrote_part (length c.journal) e (c.part r) in
+    → IsFresh (start_clauses (opening_of c.opening)) c.journal e → IsSpaced c.journal e
+    → TicketsSound c.opening c.drawn (put c.part r (wrote_part (length c.journal) e (record (c.part r) { ticket = t }))) → Sound (written c r (record (c.part r) { ticket = t }) e)
+writes c r t e s lt own log low few fresh spaced tickets =
+    let d : State = written c r (record (c.part r) { ticket = t }) e in
+    let p : Part = wrote_part (length c.journal) e (record (c.part r) { ticket = t }) in
     record {
       opens = s.opens;
       counts = part_only c d r p s lt refl refl refl refl refl refl refl refl (s.counts.named r);
@@ -78,6 +88,7 @@ writes c r e s lt own log low few fresh spaced =
       units = units_written c r p e s (s.units.seen r);
       turns = s.turns;
       stops = stop_more c.opening.formula c.journal c.opening.rings c.stop e s.stops;
+      tickets = tickets;
     }
 
 -- an addition that follows from what the ring knows keeps the journal
@@ -89,15 +100,18 @@ added c r kind lits s lt w f =
 pub adds_unit : (c : State) (r : ℕ) (kind : Kind) (l : Literal) → Sound c → IsEnabled c (AddUnit r kind l) → Sound (after c (AddUnit r kind l))
 adds_unit c r kind l s e =
     let x : Addition = record { ring = r; number = (book c.opening.formula c.journal).next; lits = l ∷ []; kind = kind } in
-    writes c r (Add x) s e.0 refl (added c r kind (l ∷ []) s e.0 e.1 e.3) (add_low (book c.opening.formula c.journal) x) (few_added c.opening c.journal x (λ two. true≢false (sym two ∙ ap two_or_more (own_spelling c x s e.0)))) (may_fresh_unit c r kind (l ∷ []) e.2) tt
+    writes c r (ticket_after kind (c.part r).ticket) (Add x) s e.0 refl (added c r kind (l ∷ []) s e.0 e.1 e.3) (add_low (book c.opening.formula c.journal) x) (few_added c.opening c.journal x (λ two. true≢false (sym two ∙ ap two_or_more (own_spelling c x s e.0)))) (λ is. may_new c r (l ∷ []) (may_fresh_unit c r kind (l ∷ []) e.2 is)) tt
+    (tickets_added c.opening c.drawn c.part r (wrote_part (length c.journal) (Add x) (after_learn kind (c.part r))) s.tickets (length c.journal) x refl (λ is. may_spend c r (l ∷ []) (may_fresh_unit c r kind (l ∷ []) e.2 is)) refl refl refl)
 
 pub adds_empty : (c : State) (r : ℕ) → Sound c → IsEnabled c (AddEmpty r) → Sound (after c (AddEmpty r))
 adds_empty c r s e =
     let x : Addition = record { ring = r; number = (book c.opening.formula c.journal).next; lits = []; kind = Derive } in
-    writes c r (Add x) s e.0 refl (added c r Derive [] s e.0 e.1 e.2) (add_low (book c.opening.formula c.journal) x) (few_added c.opening c.journal x (λ two. true≢false (sym two ∙ ap two_or_more (own_spelling c x s e.0)))) (λ h. absurd (true≢false (sym h))) tt
+    writes c r (c.part r).ticket (Add x) s e.0 refl (added c r Derive [] s e.0 e.1 e.2) (add_low (book c.opening.formula c.journal) x) (few_added c.opening c.journal x (λ two. true≢false (sym two ∙ ap two_or_more (own_spelling c x s e.0)))) (λ h. absurd (true≢false (sym h))) tt
+    (tickets_added c.opening c.drawn c.part r (wrote_part (length c.journal) (Add x) (after_learn Derive (c.part r))) s.tickets (length c.journal) x refl (λ is. absurd (true≢false (sym is))) refl refl refl)
 
 pub reduces : (c : State) (r : ℕ) → Sound c → IsEnabled c (Reduce r) → Sound (after c (Reduce r))
-reduces c r s e = writes c r (ReduceEntry r) s e.0 refl (journal_more c.opening c.journal (ReduceEntry r) s.log (log_reduces c.opening.formula c.journal s.log.log r (not_added c.opening.formula c.journal e.1.going)) e.1.room e.0) (λ n lt. refl) (λ n k two is. is) tt e.2
+reduces c r s e = writes c r (c.part r).ticket (ReduceEntry r) s e.0 refl (journal_more c.opening c.journal (ReduceEntry r) s.log (log_reduces c.opening.formula c.journal s.log.log r (not_added c.opening.formula c.journal e.1.going)) e.1.room e.0) (λ n lt. refl) (λ n k two is. is) tt e.2
+    (tickets_noted c.opening c.drawn c.part r (wrote_part (length c.journal) (ReduceEntry r) (c.part r)) s.tickets (length c.journal) (ReduceEntry r) refl refl refl refl)
 
 -- A clause with its cell
 
@@ -110,7 +124,7 @@ adds_clause c r kind lits a s e =
     let new : Cell = record { lits = lits; number = b.next; count = 0; maker = Some r } in
     let d : State = after c (AddClause r kind lits a) in
     let h : ClauseAt = record { address = a; number = b.next; lits = lits } in
-    let p : Part = made_part h (length J) (Add x) (c.part r) in
+    let p : Part = made_part h (length J) (Add x) (after_learn kind (c.part r)) in
     let lt = e.0 in
     let w = e.1 in
     let none = e.4 in
@@ -164,8 +178,9 @@ adds_clause c r kind lits a s e =
       slots = slots_kept c.opening c d s.slots refl (puts_same c r p refl);
       log = added c r kind lits s lt w e.6;
       entries = owned_more c.opening c r (Add x) p s.entries refl refl;
-      freshness = fresh_more (start_clauses (opening_of c.opening)) J (Add x) s.freshness (may_fresh c r kind lits e.2) tt;
+      freshness = fresh_more (start_clauses (opening_of c.opening)) J (Add x) s.freshness (λ is. may_new c r lits (may_fresh c r kind lits e.2 is)) tt;
       units = units_written c r p (Add x) s (s.units.seen r);
       turns = s.turns;
       stops = stop_more F J c.opening.rings c.stop (Add x) s.stops;
+      tickets = tickets_added c.opening c.drawn c.part r p s.tickets (length J) x refl (λ is. may_spend c r lits (may_fresh c r kind lits e.2 is)) refl refl refl;
     }

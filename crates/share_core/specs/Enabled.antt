@@ -8,7 +8,7 @@ use Rattle.rup_model.specs.Opening.{IsLong}
 use Rattle.sat_words.specs.declared.shared.TheConstants.{MAX_ENTRIES}
 use Rattle.share_core.specs.declared.event.TheConstants.{MAX_SHARES}
 use Rattle.share_core.specs.declared.event.Event.{Event}
-use Rattle.share_core.specs.declared.event.Event.TheVariants.{Grant, TakeTurn, GiveTurn, AddClause, AddUnit, AddEmpty, Reduce, OpenCell, Read, Share, DropCount, Bury, Put, Get, Publish, See, Stop}
+use Rattle.share_core.specs.declared.event.Event.TheVariants.{Grant, TakeTurn, GiveTurn, AddClause, AddUnit, AddEmpty, Reduce, OpenCell, Read, Share, DropCount, Bury, Put, Get, Publish, See, Stop, Draw}
 use Rattle.share_core.specs.State.{times_at, State}
 use Rattle.share_core.specs.Learning.{follows, MayAddClause, MayAddUnit}
 use Rattle.share_core.specs.Events.{after}
@@ -63,6 +63,8 @@ IsEnabled c (Publish r lit) =
 IsEnabled c (See r) = IsRing c r × (length (c.part r).seen < length c.units)
 -- a kind from 1 to 5; a refutation only if the log is ended
 IsEnabled c (Stop r kind) = IsRing c r × (1 ≤ kind) × (kind ≤ 5) × (kind ≡ 2 → ended c.opening.formula c.journal ≡ true)
+-- the ring has no ticket in hand, and each draw of it so far found one left
+IsEnabled c (Draw r) = IsRing c r × ((c.part r).ticket ≡ false) × ((c.part r).found ≤ c.opening.limit)
 
 -- each event of the list is enabled after those before it
 abbrev pub AllEnabled : State → List Event → Type 0

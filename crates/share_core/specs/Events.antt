@@ -1,5 +1,5 @@
 -- What each event does. What it does not name stays as it was.
-use Rattle.std.specs.Prelude.{ℕ, ◌+◌, ◌-◌, true, false, ◌==◌, List, [], ◌∷◌, ◌++◌, length, slice_index_or, Option, Some, None, if◌then◌else◌}
+use Rattle.std.specs.Prelude.{ℕ, ◌+◌, ◌-◌, true, false, ◌==◌, nat_lt, List, [], ◌∷◌, ◌++◌, length, slice_index_or, Option, Some, None, if◌then◌else◌}
 use Rattle.sat_words.specs.Literal.{Literal}
 use Rattle.rup_model.specs.declared.journal.Kind.{Kind}
 use Rattle.rup_model.specs.declared.journal.Kind.TheVariants.{Derive}
@@ -9,7 +9,7 @@ use Rattle.rup_model.specs.Basics.{put}
 use Rattle.rup_model.specs.Journal.{book}
 use Rattle.share_core.specs.declared.event.Stop.{Stop as StopWord}
 use Rattle.share_core.specs.declared.event.Event.{Event}
-use Rattle.share_core.specs.declared.event.Event.TheVariants.{Grant, TakeTurn, GiveTurn, AddClause, AddUnit, AddEmpty, Reduce, OpenCell, Read, Share, DropCount, Bury, Put, Get, Publish, See, Stop}
+use Rattle.share_core.specs.declared.event.Event.TheVariants.{Grant, TakeTurn, GiveTurn, AddClause, AddUnit, AddEmpty, Reduce, OpenCell, Read, Share, DropCount, Bury, Put, Get, Publish, See, Stop, Draw}
 use Rattle.share_core.specs.declared.stored.ClauseAt.{ClauseAt}
 use Rattle.share_core.specs.declared.stored.Cell.{Cell}
 use Rattle.share_core.specs.declared.stored.PutNote.{PutNote}
@@ -124,6 +124,12 @@ abbrev pub first_stop : Option StopWord → StopWord → Option StopWord
 first_stop None s = Some s
 first_stop (Some t) s = Some t
 
+-- Tickets
+
+-- the ring draws after so many were drawn: it has a ticket if they are fewer than the limit
+abbrev pub drew_part : ℕ → ℕ → Part → Part
+drew_part limit drawn p = record p { ticket = nat_lt drawn limit; found = drawn + 1 }
+
 -- All events
 
 -- the effect of each event
@@ -145,3 +151,4 @@ after c (Get r from k i) = let s = slot_of c.opening from r k i in exchanged c r
 after c (Publish r lit) = record c { units = c.units ++ lit ∷ []; part = put c.part r (seen_part lit (c.part r)) }
 after c (See r) = record c { part = put c.part r (seen_part (unit_at c.units (length (c.part r).seen)) (c.part r)) }
 after c (Stop r kind) = record c { stop = first_stop c.stop (record { kind = kind; ring = r }) }
+after c (Draw r) = record c { part = put c.part r (drew_part c.opening.limit c.drawn (c.part r)); drawn = c.drawn + 1 }

@@ -10,7 +10,7 @@ use Rattle.rup_model.specs.Journal.{ended, is_told, recent, is_ring}
 use Rattle.sat_words.specs.declared.shared.TheConstants.{MAX_ENTRIES}
 use Rattle.share_core.specs.declared.event.TheConstants.{MAX_SHARES}
 use Rattle.share_core.specs.declared.event.Event.{Event}
-use Rattle.share_core.specs.declared.event.Event.TheVariants.{Grant, TakeTurn, GiveTurn, AddClause, AddUnit, AddEmpty, Reduce, OpenCell, Read, Share, DropCount, Bury, Put, Get, Publish, See, Stop}
+use Rattle.share_core.specs.declared.event.Event.TheVariants.{Grant, TakeTurn, GiveTurn, AddClause, AddUnit, AddEmpty, Reduce, OpenCell, Read, Share, DropCount, Bury, Put, Get, Publish, See, Stop, Draw}
 use Rattle.share_core.specs.State.{State}
 use Rattle.share_core.specs.Learning.{follows, may_learn, may_derive}
 use Rattle.share_core.specs.Machine.{has_at}
@@ -65,3 +65,4 @@ is_enabled c (Publish r lit) =
     nat_lt r c.opening.rings && (is_ring r c.turn && (is_told c.opening.formula c.journal lit && (length (c.part r).seen == length c.units && not (has c.units lit))))
 is_enabled c (See r) = nat_lt r c.opening.rings && nat_lt (length (c.part r).seen) (length c.units)
 is_enabled c (Stop r kind) = nat_lt r c.opening.rings && (nat_le 1 kind && (nat_le kind 5 && (not (kind == 2) || ended c.opening.formula c.journal)))
+is_enabled c (Draw r) = nat_lt r c.opening.rings && (not (c.part r).ticket && nat_le (c.part r).found c.opening.limit)

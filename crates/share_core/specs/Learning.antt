@@ -1,5 +1,5 @@
 -- What a ring knows, and what it may add to the log for it.
-use Rattle.std.specs.Prelude.{◌≡◌, ℕ, Bool, true, ⊤, List, [], ◌∷◌, ◌++◌, map}
+use Rattle.std.specs.Prelude.{◌≡◌, ℕ, ◌==◌, ◌||◌, ◌&&◌, Bool, true, false, ⊤, List, [], ◌∷◌, ◌++◌, map}
 use Rattle.std.specs.List.{list_any}
 use Rattle.sat_words.specs.Literal.{Literal}
 use Rattle.sat_words.specs.Clause.{includes}
@@ -28,9 +28,9 @@ follows p lits = rup (known_clauses p) lits
 
 -- What it may add
 
--- what the ring learns contains no start clause and nothing that it learned since it last reduced
+-- the ring has a ticket in hand, and the clause contains no start clause and nothing that it learned since it last reduced
 abbrev pub may_learn : CoreOpening → List Entry → Part → ℕ → List Literal → Bool
-may_learn o J p r lits = fresh (start_clauses (opening_of o)) J r lits
+may_learn o J p r lits = p.ticket && fresh (start_clauses (opening_of o)) J r lits
 
 -- the ring holds a clause that has all these literals
 abbrev pub may_derive : Part → List Literal → Bool
@@ -50,6 +50,13 @@ MayAddUnit o J p r Learn lits = may_learn o J p r lits ≡ true
 MayAddUnit o J p r Derive lits = ⊥
 MayAddUnit o J p r UnitLine lits = ⊤
 
--- what the ring has once it has added a clause or a unit of this kind: learning uses nothing up
+-- whether a ticket is in hand after something of this kind was added: learning uses it up
+abbrev pub ticket_after : Kind → Bool → Bool
+ticket_after Ruler t = t
+ticket_after Learn t = false
+ticket_after Derive t = t
+ticket_after UnitLine t = t
+
+-- what the ring has after it added a clause or a unit of this kind
 abbrev pub after_learn : Kind → Part → Part
-after_learn kind p = p
+after_learn kind p = record p { ticket = ticket_after kind p.ticket }

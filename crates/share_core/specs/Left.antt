@@ -1,7 +1,7 @@
 -- States that enabled events leave, and whose step each event is.
 use Rattle.std.specs.Prelude.{◌≡◌, ◌≢◌, ℕ, Bool, false, ◌==◌, List, fold, All}
 use Rattle.share_core.specs.declared.event.Event.{Event}
-use Rattle.share_core.specs.declared.event.Event.TheVariants.{Grant, TakeTurn, GiveTurn, AddClause, AddUnit, AddEmpty, Reduce, OpenCell, Read, Share, DropCount, Bury, Put, Get, Publish, See, Stop}
+use Rattle.share_core.specs.declared.event.Event.TheVariants.{Grant, TakeTurn, GiveTurn, AddClause, AddUnit, AddEmpty, Reduce, OpenCell, Read, Share, DropCount, Bury, Put, Get, Publish, See, Stop, Draw}
 use Rattle.share_core.specs.State.{CoreOpening, IsCoreOpening, State, opened}
 use Rattle.share_core.specs.Enabled.{AllEnabled}
 use Rattle.share_core.specs.Events.{after}
@@ -32,6 +32,7 @@ ring_of (Get r from k i) = r
 ring_of (Publish r lit) = r
 ring_of (See r) = r
 ring_of (Stop r kind) = r
+ring_of (Draw r) = r
 
 -- all are steps of other rings
 abbrev pub AreOthers : ℕ → List Event → Type 0
@@ -56,3 +57,4 @@ shares r (Get q from k i) = false
 shares r (Publish q lit) = false
 shares r (See q) = false
 shares r (Stop q kind) = false
+shares r (Draw q) = false

@@ -44,7 +44,7 @@ recounted a n (x ∷ xs) = if x.address == a then opened_cell n x ∷ xs else x 
 
 -- a ring before its first step
 abbrev pub no_ring : RingState
-no_ring = record { granted = false; held = []; making = []; waiting = []; seen = []; shared = 0; puts = [] }
+no_ring = record { granted = false; held = []; making = []; waiting = []; seen = []; shared = 0; puts = []; ticket = false; found = 0 }
 
 -- the ring with this number
 abbrev pub ring_in : List RingState → ℕ → RingState
@@ -52,7 +52,7 @@ ring_in rings r = slice_index_or rings r no_ring
 
 -- its part; what it wrote stands in the journal
 abbrev pub part_of : ℕ → List Entry → RingState → Part
-part_of r J x = record { ring = r; held = x.held; making = x.making; waiting = x.waiting; seen = x.seen; shared = x.shared; wrote = placed r 0 J; puts = x.puts }
+part_of r J x = record { ring = r; held = x.held; making = x.making; waiting = x.waiting; seen = x.seen; shared = x.shared; wrote = placed r 0 J; puts = x.puts; ticket = x.ticket; found = x.found }
 
 -- Cores
 
@@ -63,6 +63,7 @@ pub record CoreData : Type 0 where
   pub starts : List ClauseAt
   pub first : List Literal
   pub depth : ℕ
+  pub limit : ℕ
   pub journal : List Entry
   pub lines : List Line
   pub cells : List StoredCell
@@ -71,11 +72,12 @@ pub record CoreData : Type 0 where
   pub units : List Literal
   pub turn : Option ℕ
   pub stop : Option Stop
+  pub drawn : ℕ
 
 -- the state that a core shows, by look-ups in its lists; the ruler wrote nothing
 abbrev pub state_of : CoreData → State
 state_of d = record {
-  opening = record { formula = d.formula; rings = length d.rings; depth = d.depth; journal = []; starts = d.starts; units = d.first };
+  opening = record { formula = d.formula; rings = length d.rings; depth = d.depth; journal = []; starts = d.starts; units = d.first; limit = d.limit };
   journal = d.journal;
   cell = λ a. cell_in a d.cells;
   granted = λ r. (ring_in d.rings r).granted;
@@ -84,6 +86,7 @@ state_of d = record {
   units = d.units;
   turn = d.turn;
   stop = d.stop;
+  drawn = d.drawn;
 }
 
 -- what it holds, of what it was opened with and what the events have changed
@@ -93,6 +96,7 @@ data_of o p = record {
   starts = o.starts;
   first = o.units;
   depth = o.depth;
+  limit = o.limit;
   journal = p.journal;
   lines = p.lines;
   cells = p.cells.items;
@@ -101,6 +105,7 @@ data_of o p = record {
   units = p.units;
   turn = p.turn;
   stop = p.stop;
+  drawn = p.drawn;
 }
 
 -- its lines are those of its journal
@@ -120,8 +125,8 @@ abbrev pub start_at : List (List Literal) → ℕ × ℕ → ClauseAt
 start_at F p = record { address = p.0; number = p.1; lits = unwrap_or (formula_clause F p.1) [] }
 
 -- the opening with these pairs of an address and a number for its start clauses; the ruler wrote nothing
-abbrev pub core_opening : List (List Literal) → List (ℕ × ℕ) → List Literal → ℕ → ℕ → CoreOpening
-core_opening F start units rings depth = record { formula = F; rings = rings; depth = depth; journal = []; starts = map (start_at F) start; units = units }
+abbrev pub core_opening : List (List Literal) → List (ℕ × ℕ) → List Literal → ℕ → ℕ → ℕ → CoreOpening
+core_opening F start units rings depth limit = record { formula = F; rings = rings; depth = depth; journal = []; starts = map (start_at F) start; units = units; limit = limit }
 
 -- a start clause's open cell, with this count
 abbrev pub start_stored : ℕ → ClauseAt → StoredCell

@@ -1,11 +1,11 @@
 -- Which states are sound.
-use Rattle.std.specs.Prelude.{◌≡◌, ◌≢◌, ◌⊎◌, ℕ, ◌+◌, ◌<◌, ◌≤◌, Bool, true, false, ◌&&◌, ◌==◌, List, [], ◌∷◌, ◌++◌, map, length, fold, All, Contains, Option, Some, None, if◌then◌else◌}
+use Rattle.std.specs.Prelude.{◌≡◌, ◌≢◌, ◌⊎◌, ℕ, ◌+◌, ◌<◌, ◌≤◌, Bool, true, false, ◌&&◌, ◌==◌, nat_lt, min, List, [], ◌∷◌, ◌++◌, map, length, fold, All, Contains, Option, Some, None, if◌then◌else◌}
 use Rattle.std.specs.Option.{is_none}
 use Rattle.sat_words.specs.Literal.{Literal}
 use Rattle.sat_words.specs.Clause.{has, distinct_lits, two_or_more}
 use Rattle.rup_model.specs.declared.journal.Entry.{Entry}
 use Rattle.rup_model.specs.Basics.{EachAfter, below, one_if}
-use Rattle.rup_model.specs.Journal.{ring_of, Book, book, ended, LogSound, is_told, is_ring, IsFresh, IsSpaced}
+use Rattle.rup_model.specs.Journal.{ring_of, Book, book, ended, LogSound, is_told, is_ring, learned, IsFresh, IsSpaced}
 use Rattle.rup_model.specs.Opening.{start_clauses, IsLong}
 use Rattle.sat_words.specs.declared.shared.TheConstants.{MAX_ENTRIES}
 use Rattle.share_core.specs.declared.event.TheConstants.{MAX_SHARES}
@@ -133,9 +133,23 @@ pub record StopSound (F : List (List Literal)) (J : List Entry) (rings : ℕ) (s
   pub refuted : (s : Stop) → stop ≡ Some s → s.kind ≡ 2 → ended F J ≡ true
   pub kinds : (s : Stop) → stop ≡ Some s → (1 ≤ s.kind) × (s.kind ≤ 5) × (s.ring < rings)
 
+-- Tickets
+
+-- how many tickets the ring has used up by learning, or has in hand
+abbrev pub tickets_of : ℕ → Part → ℕ
+tickets_of r p = length (learned r (map (λ w. w.entry) p.wrote)) + one_if p.ticket
+
+-- the clauses learned since the opening and the tickets in hand together are the lesser of the number drawn and the limit; the draws beyond the limit are as many as the rings that found no ticket left; no ring found more
+-- than were drawn; a ring with a ticket in hand found one left
+pub record TicketsSound (o : CoreOpening) (drawn : ℕ) (part : ℕ → Part) : Type 0 where
+  pub used : below o.rings (λ r. tickets_of r (part r)) ≡ min drawn o.limit
+  pub gone : below o.rings (λ r. one_if (nat_lt o.limit (part r).found)) + min drawn o.limit ≡ drawn
+  pub found : (r : ℕ) → (part r).found ≤ drawn
+  pub in_hand : (r : ℕ) → (part r).ticket ≡ true → (part r).found ≤ o.limit
+
 -- All of it
 
--- a sound state: counts, cells, log, units and freshness agree
+-- a sound state: counts, cells, log, units, freshness and tickets agree
 pub record Sound (c : State) : Type 0 where
   pub opens : IsCoreOpening c.opening
   pub counts : Counts c.opening c
@@ -150,3 +164,4 @@ pub record Sound (c : State) : Type 0 where
   pub units : UnitsSound c.opening.formula c.journal c.units c.part
   pub turns : TurnSound c.opening.rings c.turn
   pub stops : StopSound c.opening.formula c.journal c.opening.rings c.stop
+  pub tickets : TicketsSound c.opening c.drawn c.part

@@ -1,6 +1,6 @@
 -- The state of the core: what it was opened with, the journal, the cells with their counts, what each ring has, the
--- slots of the pools, the listed units, the turn and the stop.
-use Rattle.std.specs.Prelude.{◌≢◌, ℕ, ◌+◌, ◌*◌, ◌≤◌, Bool, false, ◌==◌, List, [], ◌∷◌, ◌++◌, map, length, All, Option, Some, None, if◌then◌else◌}
+-- slots of the pools, the listed units, the turn, the stop and the number of draws.
+use Rattle.std.specs.Prelude.{◌≢◌, ℕ, ◌+◌, ◌*◌, ◌^◌, ◌≤◌, Bool, false, ◌==◌, List, [], ◌∷◌, ◌++◌, map, length, All, Option, Some, None, if◌then◌else◌}
 use Rattle.sat_words.specs.Literal.{Literal}
 use Rattle.rup_model.specs.declared.journal.TheConstants.{RULER_RING}
 use Rattle.rup_model.specs.declared.journal.Entry.{Entry}
@@ -37,8 +37,8 @@ with_cell h hs = if h.address == 0 then hs else hs ++ h ∷ []
 abbrev pub opening_of : CoreOpening → Opening
 opening_of o = record { journal = o.journal; starts = map (λ s. record { number = s.number; lits = s.lits }) o.starts; units = o.units }
 
--- an opening for 1 to 16 rings, with 1 to 16 slots for each two rings and class, and its start clauses at addresses that
--- are not 0 and differ
+-- an opening for 1 to 16 rings, with 1 to 16 slots for each two rings and class, its start clauses at addresses that are
+-- not 0 and differ, and a limit so low that the number of draws fits a word
 pub record IsCoreOpening (o : CoreOpening) : Type 0 where
   pub some_ring : 1 ≤ o.rings
   pub few_rings : o.rings ≤ RULER_RING
@@ -48,12 +48,13 @@ pub record IsCoreOpening (o : CoreOpening) : Type 0 where
   pub room : length o.journal ≤ MAX_ENTRIES
   pub placed : All (λ s. s.address ≢ 0) o.starts
   pub apart : (a : ℕ) → times_at a o.starts ≤ 1
+  pub limited : o.limit ≤ 2 ^ 63
 
 -- Rings
 
 -- a ring before its first step
 abbrev pub blank : ℕ → Part
-blank r = record { ring = r; held = []; making = []; waiting = []; seen = []; shared = 0; wrote = []; puts = [] }
+blank r = record { ring = r; held = []; making = []; waiting = []; seen = []; shared = 0; wrote = []; puts = []; ticket = false; found = 0 }
 
 -- States
 
@@ -68,6 +69,7 @@ pub record State : Type 0 where
   pub units : List Literal
   pub turn : Option ℕ
   pub stop : Option Stop
+  pub drawn : ℕ
 
 -- the open cells of the start clauses, each with this count
 abbrev pub start_cell : ℕ → List ClauseAt → ℕ → Option Cell
@@ -86,6 +88,7 @@ opened o = record {
   units = o.units;
   turn = None;
   stop = None;
+  drawn = 0;
 }
 
 -- Cells and slots, read

@@ -4,11 +4,12 @@ ghost use Rattle.std.specs.Prelude.{◌≡◌, ◌<◌, ◌≤◌, ◌+◌, ◌*
 ghost use Rattle.sat_words.specs.declared.line.Line.TheVariants.{Add as AddLine, Del as DelLine};
 ghost use Rattle.rup_model.specs.declared.journal.Entry.TheVariants.{Add as AddEntry};
 ghost use Rattle.rup_model.specs.Journal.{book};
-ghost use Rattle.share_core.specs.declared.event.Event.TheVariants.{Grant, TakeTurn, GiveTurn, AddClause, AddUnit, AddEmpty, Reduce as ReduceEvent, OpenCell, Share, DropCount, Bury, Put, Get, Publish, See, Stop as StopEvent};
+ghost use Rattle.share_core.specs.declared.event.Event.TheVariants.{Grant, TakeTurn, GiveTurn, AddClause, AddUnit, AddEmpty, Reduce as ReduceEvent, OpenCell, Share, DropCount, Bury, Put, Get, Publish, See, Stop as StopEvent, Draw};
 ghost use Rattle.share_core.specs.declared.event.TheConstants.{MAX_DEPTH};
 ghost use Rattle.share_core.specs.declared.progress.Origin.{Origin};
 ghost use Rattle.share_core.specs.State.{clause_at};
 ghost use Rattle.share_core.specs.Enabled.{IsEnabled};
+ghost use Rattle.share_core.specs.Learning.{ticket_after};
 ghost use Rattle.share_core.specs.Events.{after};
 ghost use Rattle.share_core.specs.Machine.{data_of, state_of, Logged, Kept};
 
@@ -21,6 +22,16 @@ use crate::stored::{Cell, ClauseAt, PutNote, StoredCell};
 use rup_model::{Addition, Entry, Kind};
 use sat_words::{Line, Lit, Lits, MAX_ENTRIES};
 use std::alloc::{AllocError, Global};
+
+/// Whether a ticket is in hand after something of this kind was added.
+fn ticket_after(kind: Kind, ticket: bool) -> bool
+    ensures { result ≡ ticket_after kind ticket }
+{
+    match kind {
+        Kind::Learn => false,
+        Kind::Ruler | Kind::Derive | Kind::UnitLine => ticket,
+    }
+}
 
 impl Progress {
     /// Where the first of a ring's slots for another ring and a class stands, if there is one for each two rings and
@@ -140,6 +151,7 @@ impl Progress {
             number,
             lits: Lits::from_slice(alloc, lits)?,
         })?;
+        own.ticket = ticket_after(kind, own.ticket);
         Ok(())
     }
 
@@ -160,6 +172,8 @@ impl Progress {
         ensures wide { OnOk result (length self.new.slots.items ≡ length self.old.slots.items) }
     {
         self.note_addition(alloc, origin, ring, kind, &[lit])?;
+        let own = &mut self.rings[ring as usize];
+        own.ticket = ticket_after(kind, own.ticket);
         Ok(())
     }
 
@@ -379,5 +393,21 @@ impl Progress {
         if self.stop.is_none() {
             self.stop = Some(Stop { kind, ring });
         }
+    }
+
+    /// One more ticket is drawn, and the ring has it in hand if there was one left.
+    pub(crate) fn draw(&mut self, origin: &Origin, ring: u32)
+        requires kept { Kept (data_of origin.now self.old) }
+        requires enabled { IsEnabled (state_of (data_of origin.now self.old)) (Draw ring) }
+        ensures after { state_of (data_of origin.now self.new) ≡ after (state_of (data_of origin.now self.old)) (Draw ring) }
+        ensures logged { Logged (data_of origin.now self.new) }
+        ensures wide { length self.new.slots.items ≡ length self.old.slots.items }
+    {
+        let left = self.drawn < origin.limit;
+        let drawn = self.drawn + 1;
+        let own = &mut self.rings[ring as usize];
+        own.ticket = left;
+        own.found = drawn;
+        self.drawn = drawn;
     }
 }

@@ -144,4 +144,9 @@ pub enum Event {
         /// Why, by number as in `Stop`.
         kind: u8,
     },
+    /// Draws a ticket, with which the ring may learn one clause; it gets none if all have been drawn.
+    Draw {
+        /// Whose step it is.
+        ring: u32,
+    },
 }

@@ -5,9 +5,11 @@ ghost use Rattle.std.specs.List.{list_any};
 ghost use Rattle.std.specs.Option.{is_none};
 ghost use Rattle.sat_words.specs.Literal.{opposite};
 ghost use Rattle.sat_words.specs.Clause.{has, includes, distinct_lits, has_opposites};
-ghost use Rattle.rup_model.specs.Journal.{recent, is_ring};
+ghost use Rattle.rup_model.specs.Journal.{recent, fresh, is_ring};
 ghost use Rattle.share_core.specs.declared.progress.Origin.{Origin};
 ghost use Rattle.share_core.specs.Learning.{follows, may_learn, may_derive};
+ghost use Rattle.share_core.specs.State.{opening_of};
+ghost use Rattle.rup_model.specs.Opening.{start_clauses};
 ghost use Rattle.share_core.specs.Machine.{has_at, data_of, ring_in, state_of};
 ghost use Rattle.share_core.specs.Guards.{is_long, may_add, may_tell, writes, holds, exchanges, is_enabled};
 
@@ -59,11 +61,26 @@ fn includes_some(lits: &[Lit], list: &[ClauseAt]) -> bool
 
 impl Progress {
     /// Whether the clause includes no start clause and nothing that the ring learned since it last reduced.
-    fn may_learn(&self, origin: &Origin, ring: u32, lits: &[Lit]) -> bool
-        ensures { let c = state_of (data_of origin.now self.now) in result ≡ may_learn c.opening c.journal (c.part ring) ring lits.now }
+    fn is_fresh(&self, origin: &Origin, ring: u32, lits: &[Lit]) -> bool
+        ensures { let c = state_of (data_of origin.now self.now) in result ≡ fresh (start_clauses (opening_of c.opening)) c.journal ring lits.now }
     {
         !includes_some(lits, origin.starts.as_slice())
             && !repeats_recent(self.journal.as_slice(), ring, lits)
+    }
+
+    /// Whether the ring may learn the clause, but for what it knows.
+    fn may_learn(&self, origin: &Origin, ring: u32, lits: &[Lit]) -> bool
+        requires { ring < length self.now.rings.items }
+        ensures { let c = state_of (data_of origin.now self.now) in result ≡ may_learn c.opening c.journal (c.part ring) ring lits.now }
+    {
+        self.ring(ring).ticket && self.is_fresh(origin, ring, lits)
+    }
+
+    /// Whether the ring has no ticket in hand, and each draw of it so far found one left.
+    fn may_draw(&self, origin: &Origin, ring: u32) -> bool
+        ensures { result ≡ is_enabled (state_of (data_of origin.now self.now)) (Event.Draw ring) }
+    {
+        self.is_ring(ring) && !self.ring(ring).ticket && self.ring(ring).found <= origin.limit
     }
 
     /// Whether a clause of this kind may be added.
@@ -255,6 +272,7 @@ impl Progress {
                 self.is_ring(*ring) && self.ring(*ring).seen.len() < self.units.len()
             }
             Event::Stop { ring, kind } => self.may_stop(origin, *ring, *kind),
+            Event::Draw { ring } => self.may_draw(origin, *ring),
         })
     }
 }

@@ -1,5 +1,6 @@
 //! The pure core of the solver's rings: a machine over events, with counted cells that hold the shared clauses, pools
-//! of slots through which rings hand them to each other, a list of units, and one journal that all write.
+//! of slots through which rings hand them to each other, a list of units, tickets for what is learned, and one journal
+//! that all write.
 //!
 //! `State` of specs/ is what it is in, `IsEnabled` and `after` say when each event may come and what it does, and
 //! `Sound` what every list of enabled events keeps: each count is the number of holders, and each line of the log is
@@ -33,7 +34,7 @@ pub use laws::{
 pub use part::{CoreOpening, Part, Placed};
 pub use ring_laws::{
     guards_stay_enabled, others_stay, shares_are_counted, the_first_stop_stays,
-    the_turn_is_a_rings, the_turn_keeps_the_log, units_grow,
+    the_turn_is_a_rings, the_turn_keeps_the_log, tickets_are_counted, units_grow,
 };
 pub use running::{Core, Step};
 pub use stored::{Cell, ClauseAt, PutNote};

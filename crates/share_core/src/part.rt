@@ -3,8 +3,8 @@ use rup_model::Entry;
 use sat_words::Lit;
 use std::collections::LinkedList;
 
-/// The formula, the numbers of rings and of slots, the ruler's journal, the start clauses in their cells, and the units
-/// that are listed from the start. No value of it is made.
+/// The formula, the numbers of rings and of slots, the ruler's journal, the start clauses in their cells, the units that
+/// are listed from the start, and the limit of what is learned. No value of it is made.
 pub struct CoreOpening {
     /// The formula's clauses.
     pub formula: LinkedList<LinkedList<Lit>>,
@@ -18,6 +18,8 @@ pub struct CoreOpening {
     pub starts: LinkedList<ClauseAt>,
     /// The units that are listed from the start.
     pub units: LinkedList<Lit>,
+    /// How many clauses the rings may learn together.
+    pub limit: u64,
 }
 
 /// An entry with its place in the journal. No value of it is made.
@@ -46,4 +48,8 @@ pub struct Part {
     pub wrote: LinkedList<Placed>,
     /// What it put, in order.
     pub puts: LinkedList<PutNote>,
+    /// Whether it has a ticket in hand.
+    pub ticket: bool,
+    /// One more than the number drawn before its last draw, 0 before its first.
+    pub found: u64,
 }

@@ -23,6 +23,7 @@ pub(crate) struct Origin {
     pub(crate) starts: Items<ClauseAt>,
     pub(crate) units: Items<Lit>,
     pub(crate) depth: u32,
+    pub(crate) limit: u64,
 }
 
 /// What the events have changed so far.
@@ -36,6 +37,7 @@ pub(crate) struct Progress {
     pub(crate) units: Items<Lit>,
     pub(crate) turn: Option<u32>,
     pub(crate) stop: Option<Stop>,
+    pub(crate) drawn: u64,
 }
 
 impl Progress {
@@ -52,6 +54,7 @@ impl Progress {
             units: self.units.copied(alloc)?,
             turn: self.turn,
             stop: self.stop,
+            drawn: self.drawn,
         })
     }
 

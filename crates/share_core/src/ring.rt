@@ -26,6 +26,10 @@ pub(crate) struct RingState {
     pub(crate) shared: u64,
     /// What it put, in order.
     pub(crate) puts: Items<PutNote>,
+    /// Whether it has a ticket in hand.
+    pub(crate) ticket: bool,
+    /// One more than the number drawn before its last draw, 0 before its first.
+    pub(crate) found: u64,
 }
 
 impl RingState {
@@ -41,6 +45,8 @@ impl RingState {
             seen: Items::new(alloc),
             shared: 0,
             puts: Items::new(alloc),
+            ticket: false,
+            found: 0,
         }
     }
 }
@@ -55,6 +61,8 @@ impl Copied for RingState {
             seen: self.seen.copied(alloc)?,
             shared: self.shared,
             puts: self.puts.copied(alloc)?,
+            ticket: self.ticket,
+            found: self.found,
         })
     }
 }

@@ -1,10 +1,13 @@
 //! What the events of one ring leave to the others, and what only grows.
-ghost use Rattle.std.specs.Prelude.{◌≡◌, ◌≢◌, ℕ, ◌+◌, ◌<◌, List, ◌++◌, fold, count_by, Some, None};
+ghost use Rattle.std.specs.Prelude.{◌≡◌, ◌≢◌, ℕ, ◌+◌, ◌<◌, ◌≤◌, List, ◌++◌, map, length, fold, count_by, Some, None};
+ghost use Rattle.rup_model.specs.declared.journal.Entry.{Entry};
+ghost use Rattle.rup_model.specs.Basics.{below};
+ghost use Rattle.rup_model.specs.Journal.{learned};
 ghost use Rattle.sat_words.specs.Literal.{Literal};
 ghost use Rattle.share_core.specs.declared.event.Event.{Event};
 ghost use Rattle.share_core.specs.declared.event.Event.TheVariants.{Stop as StopEvent};
 ghost use Rattle.share_core.specs.declared.event.Stop.{Stop};
-ghost use Rattle.share_core.specs.State.{State};
+ghost use Rattle.share_core.specs.State.{Placed, State};
 ghost use Rattle.share_core.specs.Enabled.{IsEnabled, AllEnabled};
 ghost use Rattle.share_core.specs.Events.{after};
 ghost use Rattle.share_core.specs.Left.{ring_of, AreOthers, shares};
@@ -45,6 +48,18 @@ pub fn units_grow()
     ensures listed { (c : State) (es : List Event) → (more : List Literal) × ((fold after c es).units ≡ c.units ++ more) }
     ensures seen { (c : State) (r : ℕ) (es : List Event) → (more : List Literal) × (((fold after c es).part r).seen ≡ (c.part r).seen ++ more) }
     ensures front { (c : State) (r : ℕ) → Sound c → (rest : List Literal) × (c.units ≡ (c.part r).seen ++ rest) }
+{}
+
+/// The rings together learn no more clauses than the limit after the opening's journal, and exactly as many
+/// once each of them found no ticket left. No more draws are made than the limit and one for each ring.
+pub fn tickets_are_counted()
+    ensures within { (c : State) → Sound c
+        → (added : List Entry) × (c.journal ≡ c.opening.journal ++ added) × (below c.opening.rings (λ r. length (learned r added)) ≤ c.opening.limit) }
+    ensures spent { (c : State) → Sound c → ((r : ℕ) → r < c.opening.rings → c.opening.limit < (c.part r).found)
+        → (added : List Entry) × (c.journal ≡ c.opening.journal ++ added) × (below c.opening.rings (λ r. length (learned r added)) ≡ c.opening.limit) }
+    ensures parts { (c : State) → Sound c → ((r : ℕ) → r < c.opening.rings → c.opening.limit < (c.part r).found)
+        → below c.opening.rings (λ r. length (learned r (map (λ (w : Placed). w.entry) (c.part r).wrote))) ≡ c.opening.limit }
+    ensures draws { (c : State) → Sound c → c.drawn ≤ c.opening.limit + c.opening.rings }
 {}
 
 /// What a ring has shared is the number of its events that share.

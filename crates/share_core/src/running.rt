@@ -99,6 +99,10 @@ impl Progress {
                 self.set_stop(origin, *ring, *kind);
                 Ok(())
             }
+            Event::Draw { ring } => {
+                self.draw(origin, *ring);
+                Ok(())
+            }
         }
     }
 
@@ -231,7 +235,8 @@ fn listed(alloc: Global, units: &[Lit]) -> Result<Items<Lit>, AllocError>
 
 impl Core {
     /// The machine before the first event. Start clauses are given by their addresses and their numbers in the formula,
-    /// from 1. The depth is how many slots there are for each two rings and class.
+    /// from 1. The depth is how many slots there are for each two rings and class. The limit is how many clauses the rings
+    /// may learn together, each with a ticket that it draws.
     pub fn new(
         alloc: Global,
         formula: Formula,
@@ -239,9 +244,10 @@ impl Core {
         units: &[Lit],
         rings: u32,
         depth: u32,
+        limit: u64,
     ) -> Result<Core, AllocError>
-        requires { IsCoreOpening (core_opening formula.clauses start.now units.now rings depth) }
-        ensures { IfOk result (λ core. state_of core ≡ opened (core_opening formula.clauses start.now units.now rings depth)) }
+        requires { IsCoreOpening (core_opening formula.clauses start.now units.now rings depth limit) }
+        ensures { IfOk result (λ core. state_of core ≡ opened (core_opening formula.clauses start.now units.now rings depth limit)) }
     {
         let starts = start_clauses(alloc, formula.clauses(), start)?;
         let cells = start_cells(alloc, starts.as_slice(), rings)?;
@@ -257,6 +263,7 @@ impl Core {
             units: listed(alloc, units)?,
             turn: None,
             stop: None,
+            drawn: 0,
         };
         Ok(Core {
             origin: Origin {
@@ -264,6 +271,7 @@ impl Core {
                 starts,
                 units: listed(alloc, units)?,
                 depth,
+                limit,
             },
             progress,
         })
@@ -345,6 +353,20 @@ impl Core {
         ensures { result ≡ (state_of self.now).stop }
     {
         self.progress.stop
+    }
+
+    /// Whether the ring has a ticket in hand.
+    pub fn ticket(&self, ring: u32) -> bool
+        ensures { result ≡ ((state_of self.now).part ring).ticket }
+    {
+        self.progress.is_ring(ring) && self.progress.ring(ring).ticket
+    }
+
+    /// How often rings drew, with those draws that found no ticket left.
+    pub fn drawn(&self) -> u64
+        ensures { result ≡ (state_of self.now).drawn }
+    {
+        self.progress.drawn
     }
 
     /// One event, if it is enabled. After an error nothing has changed.

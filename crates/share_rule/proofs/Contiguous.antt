@@ -236,6 +236,7 @@ module _ (F : List (List Literal)) (l : Layout) (J : List Entry) (ss : List (ℕ
     room = may.few_entries;
     placed = All_from_In (λ s. s.address ≢ 0) (starts_at (first_cell l) ss) (λ h i e. let low = (start_vars l ss (first_cell l) may.starts h i).0 in omega arith);
     apart = once ss (first_cell l);
+    limited = may.limited;
   }
     where
       same_starts : (base : ℕ) (ks : List (ℕ × List Literal)) → map {B = Start} (λ (s : ClauseAt). record { number = s.number; lits = s.lits }) (starts_at base ks) ≡ map (λ (s : ℕ × List Literal). record { number = s.0; lits = s.1 }) ks
@@ -250,6 +251,7 @@ module _ (F : List (List Literal)) (l : Layout) (J : List Entry) (ss : List (ℕ
   begun_places le = record {
     rings = refl;
     depth = refl;
+    limit = refl;
     small = may.few_vars;
     words = λ a x e. let s = cell_start l.rings (starts_at (first_cell l) ss) a x e in
         subst (λ (y : ℕ × Cell). (room l (begun_with F l J ss us) J).words y.1.number ≡ Some (range y.0 (words_for (length y.1.lits)))) (λ i. (s.2 i, s.3 i))

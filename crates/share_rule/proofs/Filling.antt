@@ -12,7 +12,7 @@ use Rattle.share_core.specs.declared.stored.ClauseAt.{ClauseAt}
 use Rattle.share_core.specs.declared.stored.Cell.{Cell}
 use Rattle.share_core.specs.State.{opened}
 use Rattle.share_rule.specs.declared.Layout.{Layout}
-use Rattle.share_rule.specs.Layout.{grant_at, unit_at, slots, slot_at, first_cell, table_words}
+use Rattle.share_rule.specs.Layout.{grant_at, unit_at, slots, slot_at, ticket_at, first_cell, table_words}
 use Rattle.share_rule.specs.Cells.{Spells}
 use Rattle.share_rule.specs.Shown.{Words}
 use Rattle.share_rule.specs.FirstWords.{total, starts_at, begun_with, lit_words, cell_words, start_words, low_words, first_words}
@@ -122,38 +122,50 @@ laid_length l us few ss ws is =
     let c = start_length l.rings ss in
     omega arith
 
-pub laid_words : (l : Layout) (us : List Literal) → length us ≤ 2 * l.vars → (ss : List (ℕ × List Literal)) (ws ws' : List ℕ) (first : ℕ) → first ≡ first_cell l → ws ≡ low_words l us ++ start_words l.rings ss
-    → ws' ≡ ws ++ replicate (first + l.words - length ws) 0 → ws' ≡ first_words l ss us
-laid_words l us few ss ws ws' first f is more =
+pub laid_words : (l : Layout) (us : List Literal) → length us ≤ 2 * l.vars → (ss : List (ℕ × List Literal)) (ws ws' : List ℕ) (end : ℕ) → end ≡ table_words l → ws ≡ low_words l us ++ start_words l.rings ss
+    → ws' ≡ ws ++ replicate (end - length ws) 0 → ws' ≡ first_words l ss us
+laid_words l us few ss ws ws' end e is more =
     let n = laid_length l us few ss ws is in
-    let z : first + l.words - length ws ≡ l.words - total ss = omega arith in
-    more ∙ (λ i. is i ++ replicate (z i) 0) ∙ append_assoc (low_words l us) (start_words l.rings ss) (replicate (l.words - total ss) 0)
+    let z : end - length ws ≡ l.words + 1 - total ss = omega arith in
+    more ∙ (λ i. is i ++ replicate (z i) 0) ∙ append_assoc (low_words l us) (start_words l.rings ss) (replicate (l.words + 1 - total ss) 0)
 
 -- All words
 
 module _ (F : List (List Literal)) (l : Layout) (J : List Entry) (ss : List (ℕ × List Literal)) (us : List Literal) (few : length us ≤ 2 * l.vars) (fits : total ss ≤ l.words) where
   pub first_length : length (first_words l ss us) ≡ table_words l
   first_length =
-      let a = length-append (low_words l us) (start_words l.rings ss ++ replicate (l.words - total ss) 0) in
-      let b = length-append (start_words l.rings ss) (replicate (l.words - total ss) 0) in
+      let a = length-append (low_words l us) (start_words l.rings ss ++ replicate (l.words + 1 - total ss) 0) in
+      let b = length-append (start_words l.rings ss) (replicate (l.words + 1 - total ss) 0) in
       let c = low_length l us few in
       let d = start_length l.rings ss in
-      let e = length-replicate {A = ℕ} (l.words - total ss) 0 in
+      let e = length-replicate {A = ℕ} (l.words + 1 - total ss) 0 in
       omega arith
+
+  -- no ticket is drawn
+  ticket_none : get_or (first_words l ss us) (ticket_at l) 0 ≡ 0
+  ticket_none =
+      let low = low_length l us few in
+      let d = start_length l.rings ss in
+      let free : ℕ = l.words + 1 - total ss in
+      let p : ticket_at l ≡ length (low_words l us) + (length (start_words l.rings ss) + (l.words - total ss)) = omega arith in
+      ap (λ i. get_or (first_words l ss us) i 0) p
+      ∙ get_or-append-add (low_words l us) (start_words l.rings ss ++ replicate free 0) (length (start_words l.rings ss) + (l.words - total ss)) 0
+      ∙ get_or-append-add (start_words l.rings ss) (replicate free 0) (l.words - total ss) 0
+      ∙ get_or-replicate free (l.words - total ss) 0 0 (omega arith)
 
   pub begun_words : (v : ℕ) → v ≡ 256 * length J + 0 → Words l (opened (begun_with F l J ss us)) (λ _. 0) (set (first_words l ss us) 0 v)
   begun_words v is =
       let wide = first_length in
       let at_low : (i : ℕ) → 0 < i → i < first_cell l → slice_index (set (first_words l ss us) 0 v) i ≡ get_or (low_words l us) i 0 = λ i some lt.
       let len = low_length l us few in
-      get_or-set_other (first_words l ss us) 0 i v 0 (λ e. omega arith) ∙ get_or_append_left (low_words l us) (start_words l.rings ss ++ replicate (l.words - total ss) 0) 0 i (omega arith) in
+      get_or-set_other (first_words l ss us) 0 i v 0 (λ e. omega arith) ∙ get_or_append_left (low_words l us) (start_words l.rings ss ++ replicate (l.words + 1 - total ss) 0) 0 i (omega arith) in
       let at_cell : (i : ℕ) → i < total ss → slice_index (set (first_words l ss us) 0 v) (first_cell l + i) ≡ get_or (start_words l.rings ss) i 0 = λ i lt.
       let len = low_length l us few in
       let d = start_length l.rings ss in
       let p : first_cell l + i ≡ length (low_words l us) + i = omega arith in
       get_or-set_other (first_words l ss us) 0 (first_cell l + i) v 0 (λ e. omega arith)
-      ∙ ap (λ k. get_or (first_words l ss us) k 0) p ∙ get_or-append-add (low_words l us) (start_words l.rings ss ++ replicate (l.words - total ss) 0) i 0
-      ∙ get_or_append_left (start_words l.rings ss) (replicate (l.words - total ss) 0) 0 i (omega arith) in
+      ∙ ap (λ k. get_or (first_words l ss us) k 0) p ∙ get_or-append-add (low_words l us) (start_words l.rings ss ++ replicate (l.words + 1 - total ss) 0) i 0
+      ∙ get_or_append_left (start_words l.rings ss) (replicate (l.words + 1 - total ss) 0) 0 i (omega arith) in
       let ws : List ℕ = set (first_words l ss us) 0 v in
       let cells : (a : ℕ) (x : Cell) → (opened (begun_with F l J ss us)).cell a ≡ Some x → (slice_index ws a ≡ x.count) × Spells ws a x.number 0 x.lits = λ a x e.
       let s = cell_start l.rings (starts_at (first_cell l) ss) a x e in
@@ -169,4 +181,5 @@ module _ (F : List (List Literal)) (l : Layout) (J : List Entry) (ss : List (ℕ
         slot_is = λ k lt. at_low (slot_at l k) (omega arith) (omega arith) ∙ slots_empty l us few k lt;
         count_is = λ a x e o. (cells a x e).0;
         cell_is = λ a x e o. (cells a x e).1;
+        ticket_is = get_or-set_other (first_words l ss us) 0 (ticket_at l) v 0 (λ e. omega arith) ∙ ticket_none;
       }

@@ -27,3 +27,4 @@ pub mod Accounts
 pub mod LowWords
 pub mod Exchanging
 pub mod Stopping
+pub mod Drawing

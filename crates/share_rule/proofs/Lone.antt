@@ -4,7 +4,7 @@ use Rattle.rup_model.specs.Basics.{one_if, below}
 use Rattle.rup_model.proofs.Sums.{below_none, at_put}
 use Rattle.rup_model.proofs.Sequences.{EachState}
 use Rattle.share_core.specs.declared.event.Event.{Event}
-use Rattle.share_core.specs.declared.event.Event.TheVariants.{Grant, TakeTurn, GiveTurn, AddClause, AddUnit, AddEmpty, Reduce, OpenCell, Read, Share, DropCount, Bury, Put, Get, Publish, See, Stop}
+use Rattle.share_core.specs.declared.event.Event.TheVariants.{Grant, TakeTurn, GiveTurn, AddClause, AddUnit, AddEmpty, Reduce, OpenCell, Read, Share, DropCount, Bury, Put, Get, Publish, See, Stop, Draw}
 use Rattle.share_core.specs.State.{State, times_at, slots, slot_of, opened}
 use Rattle.share_core.specs.Enabled.{IsEnabled}
 use Rattle.share_core.specs.Events.{after}
@@ -35,6 +35,7 @@ stays_lone c (Get r from k i) on h = (h.0, λ s. at_put c.slot (slot_of c.openin
 stays_lone c (Publish r lit) on h = h
 stays_lone c (See r) on h = h
 stays_lone c (Stop r kind) on h = h
+stays_lone c (Draw r) on h = h
 
 each_lone : (c : State) (es : List Event) → EachState after IsEnabled c es → IsLone c → IsLone (fold after c es)
 each_lone c [] on h = h

@@ -11,7 +11,7 @@ use Rattle.share_core.specs.State.{State}
 use Rattle.share_rule.specs.declared.Layout.{Layout}
 use Rattle.share_rule.specs.declared.view.RingPart.{RingPart}
 use Rattle.share_rule.specs.declared.view.StoredWord.{StoredWord}
-use Rattle.share_rule.specs.Layout.{grant_at, unit_at, slots, slot_at, first_cell}
+use Rattle.share_rule.specs.Layout.{grant_at, unit_at, slots, slot_at, ticket_at, first_cell}
 use Rattle.share_rule.specs.Seen.{Stands}
 use Rattle.share_rule.specs.Shown.{Words, IsStored, IsOut, ring_of, stop_number}
 use Rattle.share_rule.proofs.Words.{spells_else, unit_kept}
@@ -42,6 +42,7 @@ stop_words l c glue ws o st w =
       grant_is = λ i it. get_or-set_other ws 1 (grant_at i) n 0 (λ e. omega arith) ∙ w.grant_is i it;
       unit_is = λ j jt. get_or-set_other ws 1 (unit_at l j) n 0 (λ e. omega arith) ∙ w.unit_is j jt;
       slot_is = λ i it. get_or-set_other ws 1 (slot_at l i) n 0 (λ e. omega arith) ∙ w.slot_is i it;
+      ticket_is = get_or-set_other ws 1 (ticket_at l) n 0 (λ e. omega arith) ∙ w.ticket_is;
       count_is = λ b y e o'. let at = (st.inside b y e).0 in get_or-set_other ws 1 b n 0 (λ q. omega arith) ∙ w.count_is b y e o';
       cell_is = λ b y e o'. let at = (st.inside b y e).0 in spells_else ws 1 n b y.number (glue y.number) y.lits (λ i some it q. omega arith) (w.cell_is b y e o');
     }
@@ -63,6 +64,7 @@ slot_words l c glue ws k n r p st lt w =
       slot_is = λ i it. dite (ℕ_discrete i k)
           (λ e. ap (λ j. slice_index (set ws (slot_at l k) n) (slot_at l j)) e ∙ get_or-set_same ws (slot_at l k) n 0 in_ws ∙ sym (ap (put c.slot k n) e ∙ put_here c.slot k n))
           (λ ne. get_or-set_other ws (slot_at l k) (slot_at l i) n 0 (λ e. ne (omega arith)) ∙ w.slot_is i it ∙ sym (put_else c.slot k n i ne));
+      ticket_is = get_or-set_other ws (slot_at l k) (ticket_at l) n 0 (λ e. omega arith) ∙ w.ticket_is;
       count_is = λ b y e o. let at = (st.inside b y e).0 in get_or-set_other ws (slot_at l k) b n 0 (λ q. omega arith) ∙ w.count_is b y e o;
       cell_is = λ b y e o. let at = (st.inside b y e).0 in spells_else ws (slot_at l k) n b y.number (glue y.number) y.lits (λ i some it q. omega arith) (w.cell_is b y e o);
     }

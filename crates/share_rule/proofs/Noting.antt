@@ -24,6 +24,7 @@ use Rattle.share_core.specs.declared.part.Part.{Part}
 use Rattle.share_core.specs.State.{State, times_at, number_at}
 use Rattle.share_core.specs.Events.{after, made_part, wrote_part, buried_part, written, begun, buried, addition_of, deletion_of}
 use Rattle.share_core.specs.Enabled.{Writes}
+use Rattle.share_core.specs.Learning.{ticket_after, after_learn}
 use Rattle.share_core.specs.Sound.{Sound, IsCopy, idle_at}
 use Rattle.share_core.proofs.Counting.{some_same, none_some, cell_cases}
 use Rattle.share_core.proofs.ClauseLists.{all_in, all_map, all_one}
@@ -45,6 +46,9 @@ use Rattle.share_rule.proofs.Parts.{cell_below}
 use Rattle.share_rule.proofs.Rooms.{within_is, RoomSound, room_sound, room_more, freed_else}
 use Rattle.share_rule.proofs.Tightness.{tight_more}
 use Rattle.share_rule.proofs.Sheets.{begins_long, waiting_clause, beside_same, beside_both, IsSheet, Noted, next_after, long_entry}
+
+abbrev with_ticket : Bool → Part → Part
+with_ticket t p = record p { ticket = t }
 
 module _ (l : Layout) (small : table_words l ≤ 2 ^ 63) (r : ℕ) where
   module _ (c : State) (glue : ℕ → ℕ) (s : Sheet) (left : Left c.opening c) (pl : Places l c) (lt : r < c.opening.rings) (turn : c.turn ≡ Some r) (sh : IsSheet c glue r s) where
@@ -78,17 +82,18 @@ module _ (l : Layout) (small : table_words l ≤ 2 ^ 63) (r : ℕ) where
         subst (All (InVars l)) (sym (ap added (drop-append-le (length o.journal) c.journal (e ∷ []) (begins_long c sound)) ∙ added-append (drop (length o.journal) c.journal) (e ∷ [])))
         (All-append (InVars l) (added (drop (length o.journal) c.journal)) (added (e ∷ [])) pl.entries h)
 
-    plain_note : (n : Note) (e : Entry) → All (InVars l) (added (e ∷ [])) → written c r (c.part r) e ≡ after c (event_of r n) → ended o.formula c.journal ≡ false → Left o (written c r (c.part r) e) → entry_of o r c.journal (c.part r) n ≡ e → room_after M e ≡ M → noted_core o r c.journal n (c.part r) ≡ wrote_part (length c.journal) e (c.part r)
+    plain_note : (n : Note) (t : Bool) (e : Entry) → All (InVars l) (added (e ∷ [])) → written c r (with_ticket t (c.part r)) e ≡ after c (event_of r n) → ended o.formula c.journal ≡ false → Left o (written c r (with_ticket t (c.part r)) e) → entry_of o r c.journal (c.part r) n ≡ e → room_after M e ≡ M → noted_core o r c.journal n (c.part r) ≡ wrote_part (length c.journal) e (with_ticket t (c.part r))
         → All (λ h. glue_in h.number (noted o r s n).glues ≡ glue h.number) (noted o r s n).part.held → All (λ h. glue_in h.number (noted o r s n).glues ≡ glue h.number) (noted o r s n).part.making
         → Noted l r c glue (n ∷ []) (noted o r s n)
-    plain_note n e on runs going left' entry free part held made = record {
-      core = written c r (c.part r) e;
+    plain_note n t e on runs going left' entry free part held made = record {
+      core = written c r (with_ticket t (c.part r)) e;
       runs = runs;
       glue' = glue;
       left = left';
       places = record {
         rings = pl.rings;
         depth = pl.depth;
+        limit = pl.limit;
         small = pl.small;
         words = λ a x is. ap (λ (m : Room). m.words x.number) (room_next e ∙ free) ∙ pl.words a x is;
         vars = pl.vars;
@@ -102,10 +107,11 @@ module _ (l : Layout) (small : table_words l ≤ 2 ^ 63) (r : ℕ) where
         opening = refl;
         granted = λ i. refl;
         slot = λ i. refl;
+        drawn = refl;
         units = refl;
         turn = refl;
         stop = refl;
-        others = put_else c.part r (wrote_part (length c.journal) e (c.part r));
+        others = put_else c.part r (wrote_part (length c.journal) e (with_ticket t (c.part r)));
         open_cells = λ a x is op. is;
         built = λ a i x is m. is;
         counted = λ a x is n. is;
@@ -115,7 +121,7 @@ module _ (l : Layout) (small : table_words l ≤ 2 ^ 63) (r : ℕ) where
       };
       sheet = record {
         journal = (λ i. sh.journal i ++ entry_of o r (sh.journal i) (sh.part i) n ∷ []) ∙ ap (λ (x : Entry). c.journal ++ x ∷ []) entry;
-        part = (λ i. noted_core o r (sh.journal i) n (sh.part i)) ∙ part ∙ sym (put_here c.part r (wrote_part (length c.journal) e (c.part r)));
+        part = (λ i. noted_core o r (sh.journal i) n (sh.part i)) ∙ part ∙ sym (put_here c.part r (wrote_part (length c.journal) e (with_ticket t (c.part r))));
         held_glues = held;
         made_glues = made;
       };
@@ -132,15 +138,15 @@ module _ (l : Layout) (small : table_words l ≤ 2 ^ 63) (r : ℕ) where
 
     unit_note : (kind : Kind) (lit : Literal) → IsGoing o s.journal → MayNote l o r s.journal s.part (UnitNote kind lit) → Noted l r c glue ((UnitNote kind lit) ∷ []) (noted o r s (UnitNote kind lit))
     unit_note kind lit going h = let k = may (UnitNote kind lit) h in
-        plain_note (UnitNote kind lit) (addition_of c r kind (lit ∷ [])) (all_one (InVars l) (lit ∷ []) k.2) refl (writes going).going (left_one o c (event.AddUnit r kind lit) left (lt, writes going, k.0, k.1)) refl refl refl sh.held_glues sh.made_glues
+        plain_note (UnitNote kind lit) (ticket_after kind (c.part r).ticket) (addition_of c r kind (lit ∷ [])) (all_one (InVars l) (lit ∷ []) k.2) refl (writes going).going (left_one o c (event.AddUnit r kind lit) left (lt, writes going, k.0, k.1)) refl refl refl sh.held_glues sh.made_glues
 
     empty_note : IsGoing o s.journal → MayNote l o r s.journal s.part Empty → Noted l r c glue (Empty ∷ []) (noted o r s Empty)
     empty_note going h = let k = may Empty h in
-        plain_note Empty (addition_of c r Derive []) (all_one (InVars l) [] none_on) refl (writes going).going (left_one o c (event.AddEmpty r) left (lt, writes going, k)) refl refl refl sh.held_glues sh.made_glues
+        plain_note Empty (c.part r).ticket (addition_of c r Derive []) (all_one (InVars l) [] none_on) refl (writes going).going (left_one o c (event.AddEmpty r) left (lt, writes going, k)) refl refl refl sh.held_glues sh.made_glues
 
     reduce_note : IsGoing o s.journal → MayNote l o r s.journal s.part Reduce → Noted l r c glue (Reduce ∷ []) (noted o r s Reduce)
     reduce_note going h = let k = may Reduce h in
-        plain_note Reduce (ReduceEntry r) none_added refl (writes going).going (left_one o c (event.Reduce r) left (lt, writes going, k)) refl refl refl sh.held_glues sh.made_glues
+        plain_note Reduce (c.part r).ticket (ReduceEntry r) none_added refl (writes going).going (left_one o c (event.Reduce r) left (lt, writes going, k)) refl refl refl sh.held_glues sh.made_glues
 
     -- the ring's clauses are known by numbers below the next
     held_below : (h : ClauseAt) → IsCopy c.cell h → h.number < N
@@ -162,7 +168,7 @@ module _ (l : Layout) (small : table_words l ≤ 2 ^ 63) (r : ℕ) where
         let d : State = begun c r kind lits a in
         let e : Entry = addition_of c r kind lits in
         let new : Cell = record { lits = lits; number = N; count = 0; maker = Some r } in
-        let p' : Part = made_part (record { address = a; number = N; lits = lits }) (length c.journal) e (c.part r) in
+        let p' : Part = made_part (record { address = a; number = N; lits = lits }) (length c.journal) e (after_learn kind (c.part r)) in
         let glue' : ℕ → ℕ = put glue N g in
         let after_it : room l o (c.journal ++ e ∷ []) ≡ record { holes = without_fit need M.holes; words = put M.words N (Some (range a need)) } =
         room_next e ∙ long_entry M N lits r kind long ∙ ap (with_clause N (length lits) M) fit in
@@ -177,6 +183,7 @@ module _ (l : Layout) (small : table_words l ≤ 2 ^ 63) (r : ℕ) where
           places = record {
             rings = pl.rings;
             depth = pl.depth;
+            limit = pl.limit;
             small = pl.small;
             words = λ b y. at_put c.cell a (Some new) (λ (q : Option Cell). q ≡ Some y → (room l o (c.journal ++ e ∷ [])).words y.number ≡ Some (range b (words_for (length y.lits)))) b
                 (λ here is. subst (λ (z : Cell). (room l o (c.journal ++ e ∷ [])).words z.number ≡ Some (range b (words_for (length z.lits)))) (some_same new y is)
@@ -195,6 +202,7 @@ module _ (l : Layout) (small : table_words l ≤ 2 ^ 63) (r : ℕ) where
             opening = refl;
             granted = λ i. refl;
             slot = λ i. refl;
+            drawn = refl;
             units = refl;
             turn = refl;
             stop = refl;
@@ -248,6 +256,7 @@ module _ (l : Layout) (small : table_words l ≤ 2 ^ 63) (r : ℕ) where
           places = record {
             rings = pl.rings;
             depth = pl.depth;
+            limit = pl.limit;
             small = pl.small;
             words = λ b y. at_put c.cell a None (λ (q : Option Cell). q ≡ Some y → (room l o (c.journal ++ e ∷ [])).words y.number ≡ Some (range b (words_for (length y.lits)))) b
                 (λ here is. absurd (none_some y is))
@@ -265,6 +274,7 @@ module _ (l : Layout) (small : table_words l ≤ 2 ^ 63) (r : ℕ) where
             opening = refl;
             granted = λ i. refl;
             slot = λ i. refl;
+            drawn = refl;
             units = refl;
             turn = refl;
             stop = refl;

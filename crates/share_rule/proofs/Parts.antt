@@ -25,7 +25,7 @@ use Rattle.share_rule.specs.declared.Layout.{Layout}
 use Rattle.share_rule.specs.declared.rule.Key.{Key}
 use Rattle.share_rule.specs.declared.view.RingPart.{RingPart}
 use Rattle.share_rule.specs.declared.view.View.{View}
-use Rattle.share_rule.specs.Layout.{first_cell, table_words}
+use Rattle.share_rule.specs.Layout.{first_cell, cells_end, table_words}
 use Rattle.share_rule.specs.Views.{only, clause_in, clause_of, making_of, IsHolding, IsBuilding, is_ready, in_draft}
 use Rattle.share_rule.specs.Seen.{Stands, IsPart, Seen}
 use Rattle.share_rule.specs.Layout.{InVars}
@@ -136,7 +136,7 @@ pub record HeldCell (v : View) (s : Seen v) (a : ℕ) : Type 0 where
   pub number : (clause_of a v).number ≡ cell.number
   pub lits : (clause_of a v).lits ≡ cell.lits
   pub begins : first_cell v.layout ≤ a
-  pub ends : a + words_for (length (clause_of a v).lits) ≤ table_words v.layout
+  pub ends : a + words_for (length (clause_of a v).lits) ≤ cells_end v.layout
   pub vars : InVars v.layout (clause_of a v).lits
 
 pub held_of : (v : View) (s : Seen v) (a : ℕ) → IsHolding a v → HeldCell v s a
@@ -157,11 +157,11 @@ held_of v s a h =
       number = ap (λ (k : ClauseAt). k.number) clause ∙ ap number_at is.1;
       lits = lits;
       begins = at.0;
-      ends = subst (λ (ks : List Literal). a + words_for (length ks) ≤ table_words v.layout) (sym lits) at.1;
+      ends = subst (λ (ks : List Literal). a + words_for (length ks) ≤ cells_end v.layout) (sym lits) at.1;
       vars = subst (InVars v.layout) (sym lits) (s.standing.vars a is.0 is.1);
     }
 
-pub building_of : (v : View) (s : Seen v) (a : ℕ) → IsBuilding a v → (first_cell v.layout ≤ a) × (a + words_for (length (making_of a v).lits) ≤ table_words v.layout)
+pub building_of : (v : View) (s : Seen v) (a : ℕ) → IsBuilding a v → (first_cell v.layout ≤ a) × (a + words_for (length (making_of a v).lits) ≤ cells_end v.layout)
 building_of v s a h =
     let c : State = s.core in
     let part = only_part v s h.0 in
@@ -172,4 +172,4 @@ building_of v s a h =
     let clause : making_of a v ≡ clause_at c a = ap (λ (q : Part). clause_in a q.making) part.part ∙ building_clause c sound r a part.ring making in
     let lits : (making_of a v).lits ≡ is.0.lits = ap (λ (k : ClauseAt). k.lits) clause ∙ ap lits_at is.1 in
     let at = s.standing.inside a is.0 is.1 in
-    (at.0, subst (λ (ks : List Literal). a + words_for (length ks) ≤ table_words v.layout) (sym lits) at.1)
+    (at.0, subst (λ (ks : List Literal). a + words_for (length ks) ≤ cells_end v.layout) (sym lits) at.1)

@@ -20,7 +20,7 @@ use Rattle.share_core.specs.State.{State}
 use Rattle.share_core.specs.Sound.{Sound}
 use Rattle.share_core.proofs.Counting.{some_same, none_some}
 use Rattle.share_rule.specs.declared.Layout.{Layout}
-use Rattle.share_rule.specs.Layout.{first_cell, table_words}
+use Rattle.share_rule.specs.Layout.{first_cell, cells_end, table_words}
 use Rattle.share_rule.specs.Seen.{Stands}
 use Rattle.share_rule.specs.Room.{Room, with_clause, placed, without_words, freed, with_addition, room_after, names, start_room, room, Places}
 
@@ -67,8 +67,8 @@ clear_of a n from (h ∷ hs) e some busy =
 -- what is kept of a room
 pub record RoomSound (l : Layout) (m : Room) : Type 0 where
   pub apart : is_apart 0 m.holes ≡ true
-  pub free : (w : ℕ) → is_free m.holes w ≡ true → (first_cell l ≤ w) × (w < table_words l)
-  pub some : (n : ℕ) (r : Hole) → m.words n ≡ Some r → (0 < r.len) × (first_cell l ≤ r.first) × (r.first + r.len ≤ table_words l)
+  pub free : (w : ℕ) → is_free m.holes w ≡ true → (first_cell l ≤ w) × (w < cells_end l)
+  pub some : (n : ℕ) (r : Hole) → m.words n ≡ Some r → (0 < r.len) × (first_cell l ≤ r.first) × (r.first + r.len ≤ cells_end l)
   pub busy : (n w : ℕ) (r : Hole) → m.words n ≡ Some r → is_within r.first r.len w ≡ true → is_free m.holes w ≡ false
   pub own : (n k w : ℕ) (r q : Hole) → m.words n ≡ Some r → m.words k ≡ Some q → n ≢ k → is_within r.first r.len w ≡ true → is_within q.first q.len w ≡ false
 
@@ -87,8 +87,8 @@ module _ (l : Layout) (small : table_words l ≤ 2 ^ 63) where
           record {
             apart = taken_apart 0 need m.holes s.apart;
             free = λ w k. s.free w (less w k);
-            some = λ i r. at_put m.words n (Some (range a need)) (λ (q : Option Hole). q ≡ Some r → (0 < r.len) × (first_cell l ≤ r.first) × (r.first + r.len ≤ table_words l)) i
-                (λ _ is. subst (λ (r : Hole). (0 < r.len) × (first_cell l ≤ r.first) × (r.first + r.len ≤ table_words l)) (some_same (range a need) r is)
+            some = λ i r. at_put m.words n (Some (range a need)) (λ (q : Option Hole). q ≡ Some r → (0 < r.len) × (first_cell l ≤ r.first) × (r.first + r.len ≤ cells_end l)) i
+                (λ _ is. subst (λ (r : Hole). (0 < r.len) × (first_cell l ≤ r.first) × (r.first + r.len ≤ cells_end l)) (some_same (range a need) r is)
                 (let first = s.free a (was a (within_is a need a (omega arith) (omega arith))) in
                 let last = s.free (a + (need - 1)) (was (a + (need - 1)) (within_is a need (a + (need - 1)) (omega arith) (omega arith))) in
                 let f = first.0 in let g = last.1 in (omega arith, f, omega arith)))
@@ -127,7 +127,7 @@ module _ (l : Layout) (small : table_words l ≤ 2 ^ 63) where
                 (λ (x : is_within r.first r.len w ≡ true). let b = within_of r.first r.len w x in let b0 = b.0 in let b1 = b.1 in (omega arith, omega arith))
                 (λ (x : is_free m.holes w ≡ true). s.free w x)
                 (or_parts (is_within r.first r.len w) (is_free m.holes w) (sym (is w) ∙ k));
-            some = λ i q. at_put m.words n None (λ (x : Option Hole). x ≡ Some q → (0 < q.len) × (first_cell l ≤ q.first) × (q.first + q.len ≤ table_words l)) i
+            some = λ i q. at_put m.words n None (λ (x : Option Hole). x ≡ Some q → (0 < q.len) × (first_cell l ≤ q.first) × (q.first + q.len ≤ cells_end l)) i
                 (λ _ z. absurd (none_some q z))
                 (λ _ z. s.some i q z);
             busy = λ i w q. at_put m.words n None (λ (x : Option Hole). x ≡ Some q → is_within q.first q.len w ≡ true → is_free (with_range r.first r.len m.holes) w ≡ false) i
@@ -169,7 +169,7 @@ module _ (l : Layout) (small : table_words l ≤ 2 ^ 63) where
         own = λ n k w r q e. absurd (none_some r e);
       }))
       (λ t. let ne = t.1 in subst (λ (b : Bool). RoomSound l (record { holes = if b then [] else range (first_cell l) l.words ∷ []; words = λ _. None })) (sym t.0) (record {
-        apart = joined 0 (range (first_cell l) l.words) [] (record { begins = omega arith; some = omega arith; ends = small; others = refl });
+        apart = joined 0 (range (first_cell l) l.words) [] (record { begins = omega arith; some = omega arith; ends = omega arith; others = refl });
         free = λ w k. within_of (first_cell l) l.words w (⊎_elim (λ (x : is_within (first_cell l) l.words w ≡ true). x) (λ (x : false ≡ true). absurd (true≢false (sym x))) (or_parts (is_within (first_cell l) l.words w) false k));
         some = λ n r e. absurd (none_some r e);
         busy = λ n w r e. absurd (none_some r e);

@@ -27,7 +27,7 @@ use Rattle.share_rule.specs.declared.view.Taken.{Taken}
 use Rattle.share_rule.specs.declared.view.RingPart.{RingPart}
 use Rattle.share_rule.specs.declared.view.StoredWord.{StoredWord}
 use Rattle.share_rule.specs.declared.view.View.{View}
-use Rattle.share_rule.specs.Layout.{grant_at, unit_at, slot_at}
+use Rattle.share_rule.specs.Layout.{grant_at, unit_at, slot_at, ticket_at}
 use Rattle.share_rule.specs.Cells.{Spells}
 use Rattle.share_core.specs.declared.event.Stop.{Stop}
 use Rattle.rup_model.specs.Journal.{ended}
@@ -49,10 +49,10 @@ use Rattle.share_rule.proofs.Lists.{at_in, set_itself}
 
 -- the first word changes, and cells that are not open
 pub turn_words : (l : Layout) (c d : State) (glue glue' : ℕ → ℕ) (ws : List ℕ) (n : ℕ) → Stands l c → Words l c glue ws → n ≡ 256 * length d.journal + turn_number d.turn
-    → d.stop ≡ c.stop → d.units ≡ c.units → ((i : ℕ) → d.granted i ≡ c.granted i) → ((i : ℕ) → d.slot i ≡ c.slot i)
+    → d.stop ≡ c.stop → d.units ≡ c.units → ((i : ℕ) → d.granted i ≡ c.granted i) → ((i : ℕ) → d.slot i ≡ c.slot i) → d.drawn ≡ c.drawn
     → ((a : ℕ) (x : Cell) → d.cell a ≡ Some x → x.maker ≡ None → (c.cell a ≡ Some x) × (glue' x.number ≡ glue x.number))
     → Words l d glue' (set ws 0 n)
-turn_words l c d glue glue' ws n st w n_is stop units grants slots_are cells =
+turn_words l c d glue glue' ws n st w n_is stop units grants slots_are drawn cells =
     let wide = w.wide in
     let in_ws : 0 < length ws = omega arith in
     record {
@@ -63,6 +63,7 @@ turn_words l c d glue glue' ws n st w n_is stop units grants slots_are cells =
       grant_is = λ i lt. get_or-set_other ws 0 (grant_at i) n 0 (λ e. omega arith) ∙ w.grant_is i lt ∙ (λ k. one_if (Rattle.std.specs.Prelude.not (sym (grants i) k)));
       unit_is = λ k lt. get_or-set_other ws 0 (unit_at l k) n 0 (λ e. omega arith) ∙ w.unit_is k (subst (λ (us : List Literal). k < length us) units lt) ∙ ap (λ (us : List Literal). slice_index_or (map code_of us) k 0) (sym units);
       slot_is = λ k lt. get_or-set_other ws 0 (slot_at l k) n 0 (λ e. omega arith) ∙ w.slot_is k lt ∙ sym (slots_are k);
+      ticket_is = get_or-set_other ws 0 (ticket_at l) n 0 (λ e. omega arith) ∙ w.ticket_is ∙ sym drawn;
       count_is = λ b y e o. let q = cells b y e o in let at = (st.inside b y q.0).0 in get_or-set_other ws 0 b n 0 (λ e. omega arith) ∙ w.count_is b y q.0 o;
       cell_is = λ b y e o. let q = cells b y e o in let at = (st.inside b y q.0).0 in
           subst (λ (g : ℕ). Spells (set ws 0 n) b y.number g y.lits) (sym q.1) (spells_else ws 0 n b y.number (glue y.number) y.lits (λ i some it z. omega arith) (w.cell_is b y q.0 o));
@@ -101,8 +102,8 @@ module _ {S : Type 0} (stands : S → BookOrigin → Layout → CoreOpening → 
       let knew : KnowsFault h.fault p = h.faults id v 0 p at (ap (λ ps. get_elem? ps 0) free_pass.0) in
       moved_with stands l s h d h.glue id v (after_take free new c.journal h.fault v) (take_part c.journal h.fault p) (set s.words 0 new) (set s.homes 0 maybe.none) at
       (left_one c.opening c (TakeTurn r) h.left (part.ring, none))
-      (record { rings = h.places.rings; depth = h.places.depth; small = h.places.small; words = h.places.words; vars = h.places.vars; starts = h.places.starts; entries = h.places.entries; units = h.places.units; few = h.places.few; first = h.places.first })
-      (turn_words l c d h.glue h.glue s.words new st h.words new_is refl refl (λ _. refl) (λ _. refl) (λ a x is o. (is, refl)))
+      (record { rings = h.places.rings; depth = h.places.depth; limit = h.places.limit; small = h.places.small; words = h.places.words; vars = h.places.vars; starts = h.places.starts; entries = h.places.entries; units = h.places.units; few = h.places.few; first = h.places.first })
+      (turn_words l c d h.glue h.glue s.words new st h.words new_is refl refl (λ _. refl) (λ _. refl) refl (λ a x is o. (is, refl)))
       (record {
         opening = refl;
         granted = λ _ _. refl;
@@ -235,8 +236,8 @@ module _ {S : Type 0} (stands : S → BookOrigin → Layout → CoreOpening → 
       let still : h.fault ≡ true → failed ≡ true = λ e. cause.1 (knew.taken writing.1.0 writing.1.1 e) in
       let next = moved_with stands l s h d all.glue' id v (after_give ns x failed v) (give_part v.opening (written_of v ns) x failed p) (set s.words 0 n) (set s.homes 0 (some (Some b))) at
       (left_one m.opening m (GiveTurn r) all.left (lt, turn))
-      (record { rings = all.places.rings; depth = all.places.depth; small = all.places.small; words = all.places.words; vars = all.places.vars; starts = all.places.starts; entries = all.places.entries; units = all.places.units; few = all.places.few; first = all.places.first })
-      (turn_words l c d h.glue all.glue' s.words n st h.words n_is beside.stop beside.units beside.granted beside.slot
+      (record { rings = all.places.rings; depth = all.places.depth; limit = all.places.limit; small = all.places.small; words = all.places.words; vars = all.places.vars; starts = all.places.starts; entries = all.places.entries; units = all.places.units; few = all.places.few; first = all.places.first })
+      (turn_words l c d h.glue all.glue' s.words n st h.words n_is beside.stop beside.units beside.granted beside.slot beside.drawn
       (λ a y is o. let was = beside.open_cells a y is o in (was, beside.glue_else y.number (below a y was))))
       (record {
         opening = beside.opening;

@@ -15,7 +15,7 @@ use Rattle.share_rule.specs.declared.Layout.{Layout}
 use Rattle.share_rule.specs.declared.view.RingPart.{RingPart}
 use Rattle.share_rule.specs.declared.view.StoredWord.{StoredWord}
 use Rattle.share_rule.specs.declared.view.View.{View}
-use Rattle.share_rule.specs.Layout.{grant_at, unit_at, slot_at, first_cell}
+use Rattle.share_rule.specs.Layout.{grant_at, unit_at, slot_at, ticket_at, first_cell}
 use Rattle.share_rule.specs.Layout.{InVars}
 use Rattle.share_rule.specs.Views.{only}
 use Rattle.share_rule.specs.Steps.{on_first, changed}
@@ -49,6 +49,7 @@ unit_words l c glue ws n st lt w =
       grant_is = λ i it. get_or-set_other ws at (grant_at i) n 0 (λ e. omega arith) ∙ w.grant_is i it;
       unit_is = λ k kt. get_or-set_other ws at (unit_at l k) n 0 (λ e. omega arith) ∙ w.unit_is k kt;
       slot_is = λ k kt. get_or-set_other ws at (slot_at l k) n 0 (λ e. omega arith) ∙ w.slot_is k kt;
+      ticket_is = get_or-set_other ws at (ticket_at l) n 0 (λ e. omega arith) ∙ w.ticket_is;
       count_is = λ b y e o. let q = (st.inside b y e).0 in get_or-set_other ws at b n 0 (λ e. omega arith) ∙ w.count_is b y e o;
       cell_is = λ b y e o. let q = (st.inside b y e).0 in spells_else ws at n b y.number (glue y.number) y.lits (λ i some it z. omega arith) (w.cell_is b y e o);
     }
@@ -80,6 +81,7 @@ list_words l c r lit glue ws st lt word w =
           (λ e. ap (λ (q : ℕ). slice_index ws (unit_at l q)) e ∙ word ∙ sym (code_last c.units lit) ∙ ap (λ (q : ℕ). slice_index_or (map code_of (c.units ++ lit ∷ [])) q 0) (sym e))
           (λ ne. w.unit_is k (omega arith) ∙ sym (code_front c.units lit k (omega arith)));
       slot_is = λ k kt. get_or-set_other ws 2 (slot_at l k) n 0 (λ e. omega arith) ∙ w.slot_is k kt;
+      ticket_is = get_or-set_other ws 2 (ticket_at l) n 0 (λ e. omega arith) ∙ w.ticket_is;
       count_is = λ b y e o. let q = (st.inside b y e).0 in get_or-set_other ws 2 b n 0 (λ e. omega arith) ∙ w.count_is b y e o;
       cell_is = λ b y e o. let q = (st.inside b y e).0 in spells_else ws 2 n b y.number (glue y.number) y.lits (λ i some it z. omega arith) (w.cell_is b y e o);
     }

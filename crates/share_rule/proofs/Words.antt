@@ -13,7 +13,7 @@ use Rattle.share_core.specs.declared.part.Part.{Part}
 use Rattle.share_core.specs.Events.{with_count, recounted}
 use Rattle.share_core.proofs.Counting.{some_same, none_some}
 use Rattle.share_rule.specs.declared.Layout.{Layout}
-use Rattle.share_rule.specs.Layout.{grant_at, unit_at, slot_at, first_cell}
+use Rattle.share_rule.specs.Layout.{grant_at, unit_at, slot_at, ticket_at, first_cell, cells_end}
 use Rattle.share_rule.specs.Cells.{Spells}
 use Rattle.clause_cell.specs.Packing.{lit_word, cell_word}
 use Rattle.share_rule.specs.Seen.{Stands}
@@ -89,6 +89,7 @@ module _ (l : Layout) (c : State) (st : Stands l c) (a n : ℕ) (x : Cell) (is :
   places_recounted pl = record {
     rings = pl.rings;
     depth = pl.depth;
+    limit = pl.limit;
     small = pl.small;
     words = λ b y e. let o = was b y e in subst (λ (k : ℕ × List Literal). (room l c.opening c.journal).words k.0 ≡ Some (range b (words_for (length k.1)))) (λ i. (o.2 i, o.3 i)) (pl.words b o.0 o.1);
     vars = λ b y e. let o = was b y e in subst (λ k. InVars l k) o.3 (pl.vars b o.0 o.1);
@@ -110,7 +111,7 @@ module _ (l : Layout) (c : State) (st : Stands l c) (a n : ℕ) (x : Cell) (is :
   count_words glue ws spells w =
       let at = st.inside a x is in
       let lo : first_cell l ≤ a = at.0 in
-      let hi = at.1 in
+      let hi : a + words_for (length x.lits) ≤ cells_end l = at.1 in
       let few = st.few in
       let wide = w.wide in
       let in_ws : a < length ws = omega arith in
@@ -122,6 +123,7 @@ module _ (l : Layout) (c : State) (st : Stands l c) (a n : ℕ) (x : Cell) (is :
         grant_is = λ i lt. get_or-set_other ws a (grant_at i) n 0 (λ e. omega arith) ∙ w.grant_is i lt;
         unit_is = λ k lt. get_or-set_other ws a (unit_at l k) n 0 (λ e. omega arith) ∙ w.unit_is k lt;
         slot_is = λ k lt. get_or-set_other ws a (slot_at l k) n 0 (λ e. omega arith) ∙ w.slot_is k lt;
+        ticket_is = get_or-set_other ws a (ticket_at l) n 0 (λ e. omega arith) ∙ w.ticket_is;
         count_is = λ b y e o. ⊎_elim
             (λ (t : (b ≡ a) × (y ≡ record { lits = x.lits; number = x.number; count = n; maker = None })). ap (slice_index (set ws a n)) t.0 ∙ get_or-set_same ws a n 0 in_ws ∙ ap (λ (k : Cell). k.count) (sym t.1))
             (λ (t : (b ≢ a) × (c.cell b ≡ Some y)). get_or-set_other ws a b n 0 t.0 ∙ w.count_is b y t.1 o)
@@ -186,6 +188,7 @@ grant_words l c glue ws r p st lt w =
           (λ ne. get_or-set_other ws (grant_at r) (grant_at i) 0 0 (λ e. ne (omega arith)) ∙ w.grant_is i it ∙ (λ j. one_if (not (sym (put_else c.granted r true i ne) j))));
       unit_is = λ k kt. get_or-set_other ws (grant_at r) (unit_at l k) 0 0 (λ e. omega arith) ∙ w.unit_is k kt;
       slot_is = λ k kt. get_or-set_other ws (grant_at r) (slot_at l k) 0 0 (λ e. omega arith) ∙ w.slot_is k kt;
+      ticket_is = get_or-set_other ws (grant_at r) (ticket_at l) 0 0 (λ e. omega arith) ∙ w.ticket_is;
       count_is = λ b y e o. let at = (st.inside b y e).0 in get_or-set_other ws (grant_at r) b 0 0 (λ q. omega arith) ∙ w.count_is b y e o;
       cell_is = λ b y e o. let at = (st.inside b y e).0 in spells_else ws (grant_at r) 0 b y.number (glue y.number) y.lits (λ i some it q. omega arith) (w.cell_is b y e o);
     }
@@ -212,6 +215,7 @@ module _ (l : Layout) (c : State) (st : Stands l c) (a : ℕ) (x : Cell) (is : c
   pub store_words : (glue : ℕ → ℕ) (ws : List ℕ) → Words l c glue ws → Words l c glue (set ws w n)
   store_words glue ws ww =
       let begins = (st.inside a x is).0 in
+      let ends : a + words_for (length x.lits) ≤ cells_end l = (st.inside a x is).1 in
       let few = st.few in
       record {
         wide = length-set ws w n ∙ ww.wide;
@@ -221,6 +225,7 @@ module _ (l : Layout) (c : State) (st : Stands l c) (a : ℕ) (x : Cell) (is : c
         grant_is = λ i lt. get_or-set_other ws w (grant_at i) n 0 (λ e. omega arith) ∙ ww.grant_is i lt;
         unit_is = λ k lt. get_or-set_other ws w (unit_at l k) n 0 (λ e. omega arith) ∙ ww.unit_is k lt;
         slot_is = λ k lt. get_or-set_other ws w (slot_at l k) n 0 (λ e. omega arith) ∙ ww.slot_is k lt;
+        ticket_is = get_or-set_other ws w (ticket_at l) n 0 (λ e. omega arith) ∙ ww.ticket_is;
         count_is = λ b y e o. get_or-set_other ws w b n 0 (elsewhere b y e (open_else b y e o) b (omega arith) (omega arith)) ∙ ww.count_is b y e o;
         cell_is = λ b y e o. spells_else ws w n b y.number (glue y.number) y.lits (λ i some lt q. elsewhere b y e (open_else b y e o) (b + i) (omega arith) (omega arith) (sym q)) (ww.cell_is b y e o);
       }

@@ -32,14 +32,14 @@ starts_at a (s ∷ ss) = record { address = a; number = s.0; lits = s.1 } ∷ st
 
 -- what the rings start from
 abbrev pub begun_with : List (List Literal) → Layout → List Entry → List (ℕ × List Literal) → List Literal → CoreOpening
-begun_with F l J ss us = record { formula = F; rings = l.rings; depth = l.depth; journal = J; starts = starts_at (first_cell l) ss; units = us }
+begun_with F l J ss us = record { formula = F; rings = l.rings; depth = l.depth; journal = J; starts = starts_at (first_cell l) ss; units = us; limit = l.conflicts }
 
 -- as the log has them, at no address
 abbrev pub starts_of : List (ℕ × List Literal) → List Start
 starts_of ss = map (λ s. record { number = s.0; lits = s.1 }) ss
 
 -- a small layout, and an opening whose literals are on its variables; the start clauses come in order of number, which is the
--- order of their words; the formula has no empty clause
+-- order of their words; the formula has no empty clause; there are at most 2^63 tickets
 pub record MayBegin (F : List (List Literal)) (l : Layout) (J : List Entry) (ss : List (ℕ × List Literal)) (us : List Literal) : Type 0 where
   pub some_ring : 1 ≤ l.rings
   pub few_rings : l.rings ≤ RULER_RING
@@ -53,6 +53,7 @@ pub record MayBegin (F : List (List Literal)) (l : Layout) (J : List Entry) (ss 
   pub few_entries : length J ≤ MAX_ENTRIES
   pub starts : All (λ s. InVars l s.1) ss
   pub units : InVars l us
+  pub limited : l.conflicts ≤ 2 ^ 63
 
 -- the start clause whose turn it is needs more words than the longest hole has that those before it leave
 abbrev pub IsNoHole : Layout → List (ℕ × List Literal) → ℕ → ℕ → Type 0
@@ -88,6 +89,6 @@ start_words count (s ∷ ss) = cell_words count s ++ start_words count ss
 abbrev pub low_words : Layout → List Literal → List ℕ
 low_words l us = (0 ∷ 0 ∷ length us ∷ []) ++ (replicate l.rings 1 ++ (map code_of us ++ replicate (2 * l.vars - length us + slots l) 0))
 
--- and what is free after them
+-- what is free after them, and no ticket drawn
 abbrev pub first_words : Layout → List (ℕ × List Literal) → List Literal → List ℕ
-first_words l ss us = low_words l us ++ (start_words l.rings ss ++ replicate (l.words - total ss) 0)
+first_words l ss us = low_words l us ++ (start_words l.rings ss ++ replicate (l.words + 1 - total ss) 0)

@@ -17,3 +17,5 @@ pub mod Passes
 pub mod FirstWords
 pub mod Exchanges
 pub mod ExchangesTold
+pub mod Tickets
+pub mod TicketsTold

@@ -71,6 +71,7 @@ room l o J = fold room_after (start_room l o.starts) (drop (length o.journal) J)
 pub record Places (l : Layout) (c : State) : Type 0 where
   pub rings : l.rings ≡ c.opening.rings
   pub depth : l.depth ≡ c.opening.depth
+  pub limit : l.conflicts ≡ c.opening.limit
   pub small : l.vars ≤ 2 ^ 30
   pub words : (a : ℕ) (x : Cell) → c.cell a ≡ Some x → (room l c.opening c.journal).words x.number ≡ Some (range a (words_for (length x.lits)))
   pub vars : (a : ℕ) (x : Cell) → c.cell a ≡ Some x → InVars l x.lits

@@ -17,16 +17,16 @@ use Rattle.share_rule.specs.declared.view.Taken.{Taken}
 use Rattle.share_rule.specs.declared.view.Refusal.{Refusal}
 use Rattle.share_rule.specs.declared.view.Refusal.TheVariants.{Ended, Broken, ProofFault, NoHole}
 use Rattle.share_rule.specs.declared.view.View.{View}
-use Rattle.share_rule.specs.Layout.{first_cell, table_words, InVars}
+use Rattle.share_rule.specs.Layout.{first_cell, cells_end, table_words, InVars}
 use Rattle.share_rule.specs.Room.{Places}
 use Rattle.share_rule.specs.Tight.{IsTight}
 use Rattle.share_rule.specs.Views.{glue_in, own_stop}
 
--- the words of cells lie in the table and don't overlap; all literals are on the layout's variables
+-- the words of cells lie among those for cells and don't overlap; all literals are on the layout's variables
 pub record Stands (l : Layout) (c : State) : Type 0 where
   pub rings : l.rings ≡ c.opening.rings
   pub depth : l.depth ≡ c.opening.depth
-  pub inside : (a : ℕ) (x : Cell) → c.cell a ≡ Some x → (first_cell l ≤ a) × (a + words_for (length x.lits) ≤ table_words l)
+  pub inside : (a : ℕ) (x : Cell) → c.cell a ≡ Some x → (first_cell l ≤ a) × (a + words_for (length x.lits) ≤ cells_end l)
   pub apart : (a b : ℕ) (x y : Cell) → c.cell a ≡ Some x → c.cell b ≡ Some y → a ≢ b → (a + words_for (length x.lits) ≤ b) ⊎ (b + words_for (length y.lits) ≤ a)
   pub vars : (a : ℕ) (x : Cell) → c.cell a ≡ Some x → InVars l x.lits
   pub starts : All (λ s. InVars l s.lits) c.opening.starts

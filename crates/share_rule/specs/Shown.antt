@@ -18,7 +18,7 @@ use Rattle.share_rule.specs.declared.view.StoredWord.{StoredWord}
 use Rattle.share_rule.specs.declared.view.RingPart.{RingPart}
 use Rattle.share_rule.specs.declared.view.Taken.{Taken}
 use Rattle.share_rule.specs.declared.view.View.{View}
-use Rattle.share_rule.specs.Layout.{grant_at, unit_at, slots, slot_at, table_words}
+use Rattle.share_rule.specs.Layout.{grant_at, unit_at, slots, slot_at, ticket_at, table_words}
 use Rattle.share_rule.specs.Cells.{Spells}
 use Rattle.share_rule.specs.Views.{times_in, stored_at, is_ready, in_draft}
 use Rattle.share_rule.specs.Seen.{IsPart, IsStopOf}
@@ -48,6 +48,7 @@ pub record Words (l : Layout) (c : State) (glue : ℕ → ℕ) (ws : List ℕ) :
   pub slot_is : (k : ℕ) → k < slots l → slice_index ws (slot_at l k) ≡ c.slot k
   pub count_is : (a : ℕ) (x : Cell) → c.cell a ≡ Some x → x.maker ≡ None → slice_index ws a ≡ x.count
   pub cell_is : (a : ℕ) (x : Cell) → c.cell a ≡ Some x → x.maker ≡ None → Spells ws a x.number (glue x.number) x.lits
+  pub ticket_is : slice_index ws (ticket_at l) ≡ c.drawn
 
 -- Views
 

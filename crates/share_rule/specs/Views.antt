@@ -77,7 +77,7 @@ in_draft Spent = false
 
 -- of a table that is not open
 abbrev pub no_opening : CoreOpening
-no_opening = record { formula = []; rings = 0; depth = 0; journal = []; starts = []; units = [] }
+no_opening = record { formula = []; rings = 0; depth = 0; journal = []; starts = []; units = []; limit = 0 }
 
 -- of none
 abbrev pub no_origin : BookOrigin
@@ -101,7 +101,7 @@ first_view l o w = view l o w (up_to o.rings)
 
 -- what a pass is left with that was joined to another
 abbrev pub spent_view : View
-spent_view = record (closed_view (record { rings = 0; vars = 0; words = 0; depth = 0 })) { stage = Spent }
+spent_view = record (closed_view (record { rings = 0; vars = 0; words = 0; depth = 0; conflicts = 0 })) { stage = Spent }
 
 -- no ring's
 abbrev pub no_part : RingPart

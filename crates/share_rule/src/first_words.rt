@@ -1,4 +1,5 @@
-//! The words that a table begins with: below the cells what the opening says, then the cells of the start clauses.
+//! The words that a table begins with: below the cells what the opening says, then the cells of the start
+//! clauses, at the end the number of tickets drawn.
 ghost use Rattle.std.specs.Prelude.{◌≡◌, ◌≤◌, ◌<◌, ◌^◌, ◌*◌, ◌/◌, ◌+◌, ◌-◌, ◌++◌, ◌∷◌, [], map, length, replicate, IfOk, IfErr, OnOk, ℕ, Some, All};
 ghost use Rattle.sat_words.specs.Literal.{Literal, code_of};
 ghost use Rattle.sat_words.specs.declared.shared.Cref.{Cref};
@@ -38,7 +39,7 @@ fn low_words(alloc: Global, layout: Layout, units: &[Lit]) -> Result<Vec<u64>, A
     ensures { IfOk result (λ v. v.items ≡ low_words layout units.now) }
 {
     let first = layout.first_cell();
-    let mut words = Vec::with_capacity(alloc, (first + layout.words) as usize)?;
+    let mut words = Vec::with_capacity(alloc, layout.ticket() + 1)?;
     words.push(0)?;
     words.push(0)?;
     words.push(units.len() as u64)?;
@@ -143,8 +144,7 @@ pub(crate) fn lay_out(
         Err(_) => return Err(HoleStop::Memory),
     };
     let (holes, cells) = place_starts(alloc, layout, &mut words, start)?;
-    let end = (layout.first_cell() + layout.words) as usize;
-    match fill(&mut words, end, 0) {
+    match fill(&mut words, layout.ticket() + 1, 0) {
         Ok(()) => Ok((words, holes, cells)),
         Err(_) => Err(HoleStop::Memory),
     }

@@ -19,7 +19,7 @@ ghost use Rattle.share_rule.specs.declared.Layout.{Layout};
 ghost use Rattle.share_rule.specs.declared.rule.Key.{Key};
 ghost use Rattle.share_rule.specs.declared.view.BookOrigin.{BookOrigin};
 ghost use Rattle.share_rule.specs.declared.view.View.{View};
-ghost use Rattle.share_rule.specs.Layout.{first_cell, table_words, grant_at};
+ghost use Rattle.share_rule.specs.Layout.{first_cell, cells_end, table_words, grant_at};
 ghost use Rattle.share_rule.specs.Room.{Room, room, room_after, names, Places};
 ghost use Rattle.share_rule.specs.Books.{StandsFor};
 ghost use Rattle.share_rule.specs.Openings.{Opens};
@@ -32,9 +32,9 @@ use crate::Ledger;
 
 // Where clauses lie
 
-/// The words of clauses lie in the table and don't overlap, and none of them is free.
+/// The words of clauses lie among those for cells and don't overlap, and none of them is free.
 pub fn clauses_lie_apart()
-    ensures inside { (l : Layout) (o : CoreOpening) (J : List Entry) (n : ℕ) (r : Hole) → table_words l ≤ 2 ^ 63 → (room l o J).words n ≡ Some r → (first_cell l ≤ r.first) × (r.first + r.len ≤ table_words l) }
+    ensures inside { (l : Layout) (o : CoreOpening) (J : List Entry) (n : ℕ) (r : Hole) → table_words l ≤ 2 ^ 63 → (room l o J).words n ≡ Some r → (first_cell l ≤ r.first) × (r.first + r.len ≤ cells_end l) }
     ensures apart { (l : Layout) (o : CoreOpening) (J : List Entry) (n m : ℕ) (r q : Hole) → table_words l ≤ 2 ^ 63 → (room l o J).words n ≡ Some r → (room l o J).words m ≡ Some q → n ≢ m → (r.first + r.len ≤ q.first) ⊎ (q.first + q.len ≤ r.first) }
     ensures busy { (l : Layout) (o : CoreOpening) (J : List Entry) (n w : ℕ) (r : Hole) → table_words l ≤ 2 ^ 63 → (room l o J).words n ≡ Some r → is_within r.first r.len w ≡ true → is_free (room l o J).holes w ≡ false }
 {}

@@ -2,8 +2,9 @@
 //! the passes show is a state of the core that enabled events leave, so a sound one.
 //!
 //! A `Pass` is a seat at the table. It moves the words of the rings whose parts it has, by the steps of `plays`,
-//! `turn_plays`, `exchange_plays` and `unit_plays`; the crates above take them. `laws`, `turn_laws`, `exchange_laws` and
-//! `unit_laws` say of each step which event of the core it is, and `room_laws` what it means that there was no room.
+//! `turn_plays`, `exchange_plays`, `unit_plays` and `ticket_plays`; the crates above take them. `laws`, `turn_laws`,
+//! `exchange_laws`, `unit_laws` and `ticket_laws` say of each step which event of the core it is, and `room_laws` what it
+//! means that there was no room.
 #![tactic(auto)]
 
 mod closing;
@@ -19,6 +20,8 @@ mod places;
 mod plays;
 mod room_laws;
 mod rule;
+mod ticket_laws;
+mod ticket_plays;
 mod turn_laws;
 mod turn_plays;
 mod unit_laws;
@@ -52,6 +55,8 @@ pub use room_laws::{
 };
 pub use rule::{Key, Pass, Rule};
 use std::alloc::Global;
+pub use ticket_laws::a_draw_is_its_event;
+pub use ticket_plays::Draws;
 pub use turn_laws::{a_turn_is_its_events, a_turn_missed_is_no_event, a_turn_taken_is_its_event};
 pub use turn_plays::{Gives, Notes, Takes};
 pub use unit_laws::{
@@ -63,7 +68,7 @@ pub use view::{
     BookOrigin, GlueAt, LastStep, Op, Poll, Refusal, RingPart, Stage, StoredWord, Taken, View,
 };
 
-/// How many rings, variables, words for cells and slots a table has.
+/// How many rings, variables, words for cells and slots a table has, and how many tickets there are.
 #[derive(Clone, Copy)]
 pub struct Layout {
     /// The rings, at most 16.
@@ -74,6 +79,8 @@ pub struct Layout {
     pub words: u64,
     /// The slots for each two rings and class, 1 to 16.
     pub depth: u32,
+    /// How many clauses the rings may learn together, at most 2^63.
+    pub conflicts: u64,
 }
 
 /// The table with its layout. Each step on it takes a pass.

@@ -1,6 +1,6 @@
 //! Where things lie in the words of a table.
 ghost use Rattle.std.specs.Prelude.{◌≡◌, ◌<◌, ◌≤◌, ◌+◌, ◌*◌, ◌^◌};
-ghost use Rattle.share_rule.specs.Layout.{grant_at, unit_at, slot_at, first_cell};
+ghost use Rattle.share_rule.specs.Layout.{grant_at, unit_at, slot_at, first_cell, ticket_at};
 
 use crate::Layout;
 
@@ -51,5 +51,13 @@ impl Layout {
         let rings = self.rings as u64;
         let slots = 4 * (rings * rings) * self.depth as u64;
         3 + rings + 2 * self.vars as u64 + slots
+    }
+
+    /// The word that counts the tickets drawn, the last of the table.
+    pub fn ticket(self) -> usize
+        requires { (self.rings ≤ 16) × (self.vars ≤ 2 ^ 30) × (self.words ≤ 2 ^ 31) × (self.depth ≤ 16) }
+        ensures { result ≡ ticket_at self }
+    {
+        (self.first_cell() + self.words) as usize
     }
 }

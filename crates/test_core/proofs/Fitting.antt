@@ -1,5 +1,5 @@
 -- What passes the test of openings is an opening.
-use Rattle.std.proofs.Common.{◌≡◌, ◌≢◌, ℕ, zero, suc, ◌<◌, ◌≤◌, ◌==◌, nat_eq, leb, Bool, true, false, not, ◌||◌, List, [], ◌∷◌, length, map, Some, refl, sym, ap, ◌∙◌, subst, inl, inr, arith, eq-eqb, ne_eqb, true≢false}
+use Rattle.std.proofs.Common.{◌≡◌, ◌≢◌, ℕ, zero, suc, ◌^◌, ◌<◌, ◌≤◌, ◌==◌, nat_eq, leb, Bool, true, false, not, ◌||◌, List, [], ◌∷◌, length, map, Some, refl, sym, ap, ◌∙◌, subst, inl, inr, arith, eq-eqb, ne_eqb, true≢false}
 use Rattle.std.specs.List.{list_any, list_all, slice_get, AllByRecursion, IsDistinct}
 use Rattle.std.specs.Option.{option_map, unwrap_or}
 use Rattle.std.proofs.lemmas.Bool.{and_parts, or_parts}
@@ -87,14 +87,15 @@ placed_in F hs e h i z =
     let a = and_parts (not (h.address == 0)) _ m.1 in
     true≢false (sym a.0 ∙ ap not (eq-eqb h.address 0 z))
 
-pub opening_from : (F : List (List Literal)) (ps : List (ℕ × ℕ)) (us : List Literal) (rings depth : ℕ) → opens F (map (start_at F) ps) us rings depth ≡ true → IsCoreOpening (core_opening F ps us rings depth)
-opening_from F ps us rings depth e =
+pub opening_from : (F : List (List Literal)) (ps : List (ℕ × ℕ)) (us : List Literal) (rings depth limit : ℕ) → opens F (map (start_at F) ps) us rings depth limit ≡ true → IsCoreOpening (core_opening F ps us rings depth limit)
+opening_from F ps us rings depth limit e =
     let hs = map (start_at F) ps in
     let a = and_parts (leb 1 rings) _ e in
     let b = and_parts (leb rings 16) _ a.1 in
     let k = and_parts (leb 1 depth) _ b.1 in
     let m = and_parts (leb depth 16) _ k.1 in
-    let c = and_parts (list_all (start_fits F) hs) _ m.1 in
+    let few = and_parts (leb limit (2 ^ 63)) _ m.1 in
+    let c = and_parts (list_all (start_fits F) hs) _ few.1 in
     let d = and_parts (stand_apart hs) _ c.1 in
     let u = and_parts (list_all (is_told F []) us) (distinct_lits us) d.1 in
     record {
@@ -112,4 +113,5 @@ opening_from F ps us rings depth e =
       room = omega arith;
       placed = All_from_In _ _ (placed_in F hs c.0);
       apart = once hs d.0;
+      limited = leb_yes limit (2 ^ 63) few.0;
     }

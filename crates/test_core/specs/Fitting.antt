@@ -1,5 +1,5 @@
 -- A test that start clauses and units of a formula make an opening, if the ruler wrote nothing.
-use Rattle.std.specs.Prelude.{ℕ, Bool, true, not, ◌&&◌, ◌||◌, ◌==◌, nat_le, List, [], ◌∷◌, length}
+use Rattle.std.specs.Prelude.{ℕ, ◌^◌, Bool, true, not, ◌&&◌, ◌||◌, ◌==◌, nat_le, List, [], ◌∷◌, length}
 use Rattle.std.specs.List.{list_any, list_all}
 use Rattle.sat_words.specs.Literal.{Literal}
 use Rattle.sat_words.specs.Clause.{distinct_lits}
@@ -17,5 +17,6 @@ stand_apart [] = true
 stand_apart (s ∷ ss) = not (list_any (λ h. (h.address == s.address) || (h.number == s.number)) ss) && stand_apart ss
 
 -- they make an opening
-abbrev pub opens : List (List Literal) → List ClauseAt → List Literal → ℕ → ℕ → Bool
-opens F ss us rings depth = nat_le 1 rings && (nat_le rings 16 && (nat_le 1 depth && (nat_le depth 16 && (list_all (start_fits F) ss && (stand_apart ss && (list_all (is_told F []) us && distinct_lits us))))))
+abbrev pub opens : List (List Literal) → List ClauseAt → List Literal → ℕ → ℕ → ℕ → Bool
+opens F ss us rings depth limit =
+    nat_le 1 rings && (nat_le rings 16 && (nat_le 1 depth && (nat_le depth 16 && (nat_le limit (2 ^ 63) && (list_all (start_fits F) ss && (stand_apart ss && (list_all (is_told F []) us && distinct_lits us)))))))

@@ -95,6 +95,7 @@ fn plain_event(ring: u32, word: &str) -> Result<Event, Fail> {
         "empty" => Ok(Event::AddEmpty { ring }),
         "reduce" => Ok(Event::Reduce { ring }),
         "see" => Ok(Event::See { ring }),
+        "draw" => Ok(Event::Draw { ring }),
         _ => Err(Fail::from("no event")),
     }
 }

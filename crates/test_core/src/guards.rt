@@ -58,6 +58,8 @@ turn of 1
 
 /// Clauses that a ring adds.
 pub(crate) const CLAUSES: &str = "\
+0 draw = done
+1 draw = done
 0 grant = done
 0 learn 50 : 1 2 = refused # no turn
 1 take-turn = done
@@ -76,6 +78,7 @@ pub(crate) const CLAUSES: &str = "\
 0 learn 50 : 4 2 -1 = refused # a start clause in it
 0 derive 50 : 2 4 = refused # in no clause held
 0 learn 50 : 2 1 = done
+0 draw = done
 0 learn 60 : 1 2 = refused # learned before
 0 learn 60 : 1 2 4 = refused # what was learned in it
 0 learn 50 : 2 4 = refused # a cell that is built
@@ -96,10 +99,13 @@ line 1 2 0
 line 1 2 0
 units, seen 0 0 0 0
 turn of 1
+drawn 3, ticket of 0
 ";
 
 /// Units, over a formula that is unsatisfiable, and the end of the log.
 pub(crate) const UNITS: &str = "\
+0 draw = done
+1 draw = done
 0 take-turn = done
 0 learn unit 1 = refused # knows nothing
 0 grant = done
@@ -109,6 +115,7 @@ pub(crate) const UNITS: &str = "\
 1 learn unit 1 = refused # another's turn
 0 learn unit 3 = refused # does not follow
 0 learn unit 1 = done
+0 draw = done
 0 learn unit 1 = refused # learned before
 0 propagate unit 1 = done
 0 publish 2 = refused # neither given nor added
@@ -132,6 +139,7 @@ pub(crate) const UNITS: &str = "\
 0 empty = refused # another's turn
 1 empty = done
 1 empty = refused # the log is ended
+1 draw = done
 1 learn unit 7 = refused
 1 learn 60 : 7 8 = refused
 1 bury 50 = refused
@@ -153,6 +161,7 @@ line 0
 units 1 2, seen 1 2 0 0
 turn of 1
 stop 2 by 1
+drawn 4, ticket of 1
 ";
 
 /// Cells, from their beginning to their deletion.
@@ -161,6 +170,7 @@ pub(crate) const CELLS: &str = "\
 1 grant = done
 0 open 50 = refused # no cell
 0 take-turn = done
+0 draw = done
 0 learn 50 : 1 2 = done
 0 read 50 = refused # still built
 0 share 50 = refused
@@ -199,6 +209,7 @@ line d 1 2 0
 line 1 2 0
 units, seen 0 0 0 0
 turn of 0
+drawn 1
 ";
 
 /// Slots between three rings.
@@ -227,4 +238,76 @@ leaves
 30 : clause 3, count 3, held 1 by 0, held 1 by 1
 slot of 0 for 2 class 3 place 1 : 25
 units, seen 0 0 0 0
+";
+
+/// One ticket for two rings: only what is learned asks for it, and a ring that found none left draws no more.
+pub(crate) const TICKETS: &str = "\
+2 draw = refused # no ring
+0 grant = done
+1 grant = done
+0 take-turn = done
+0 learn 50 : 1 2 = refused # no ticket
+0 learn unit 2 = refused # no ticket
+0 derive 50 : 1 2 = done
+0 draw = done # the ticket
+0 draw = refused # it is still in hand
+1 draw = done # none is left
+1 draw = refused # found none left
+0 derive 55 : 2 3 = done
+0 propagate unit 2 = done
+0 learn 60 : 1 3 = refused # does not follow, and leaves the ticket in hand
+0 learn 60 : 2 -3 = done
+0 learn 65 : 2 4 = refused # the ticket is used up
+0 draw = done # none is left
+0 draw = refused # found none left
+0 give-turn = done
+1 take-turn = done
+1 learn 65 : 1 2 = refused # no ticket
+leaves
+20 : clause 1, count 2, held 1 by 0, held 1 by 1
+25 : clause 2, count 2, held 1 by 0, held 1 by 1
+30 : clause 3, count 2, held 1 by 0, held 1 by 1
+50 : clause 4, count 0
+55 : clause 5, count 0
+60 : clause 7, count 0
+line 1 2 0
+line 2 3 0
+line 2 0
+line 2 -3 0
+units, seen 0 0 0 0
+turn of 1
+drawn 3
+";
+
+/// Two tickets and two rings: each ring has one in hand.
+pub(crate) const IN_HAND: &str = "\
+1 draw = done
+0 draw = done
+1 draw = refused
+leaves
+20 : clause 1, count 2
+25 : clause 2, count 2
+30 : clause 3, count 2
+units, seen 0 0 0 0
+drawn 2, ticket of 0, ticket of 1
+";
+
+/// No ticket at all: a ring learns nothing, and derives all the same.
+pub(crate) const NO_TICKETS: &str = "\
+0 grant = done
+0 take-turn = done
+0 draw = done # there is none
+0 draw = refused
+0 learn 50 : 1 2 = refused
+0 learn unit 2 = refused
+0 derive 50 : 1 2 = done
+leaves
+20 : clause 1, count 2, held 1 by 0
+25 : clause 2, count 2, held 1 by 0
+30 : clause 3, count 2, held 1 by 0
+50 : clause 4, count 0
+line 1 2 0
+units, seen 0 0 0 0
+turn of 0
+drawn 1
 ";

@@ -57,13 +57,21 @@ pub fn all_told(units: &[Lit], clauses: &[Clause]) -> bool
 }
 
 /// Whether a core may be opened with these.
-pub fn opens(clauses: &[Clause], starts: &[ClauseAt], units: &[Lit], rings: u32, depth: u32) -> bool
-    ensures { result ≡ opens clauses.now starts.now units.now rings depth }
+pub fn opens(
+    clauses: &[Clause],
+    starts: &[ClauseAt],
+    units: &[Lit],
+    rings: u32,
+    depth: u32,
+    limit: u64,
+) -> bool
+    ensures { result ≡ opens clauses.now starts.now units.now rings depth limit }
 {
     1 <= rings
         && rings <= 16
         && 1 <= depth
         && depth <= 16
+        && limit <= 1 << 63
         && all_fit(starts, clauses)
         && stand_apart(starts)
         && all_told(units, clauses)
@@ -120,12 +128,20 @@ pub fn core_over(
     units: &[Lit],
     rings: u32,
     depth: u32,
+    limit: u64,
 ) -> Result<Core, Fail>
-    ensures { IfOk result (λ core. state_of core ≡ opened (core_opening formula.clauses start.now units.now rings depth)) }
+    ensures { IfOk result (λ core. state_of core ≡ opened (core_opening formula.clauses start.now units.now rings depth limit)) }
 {
     let starts = start_clauses(alloc, formula.clauses(), start)?;
-    if !opens(formula.clauses(), starts.as_slice(), units, rings, depth) {
+    if !opens(
+        formula.clauses(),
+        starts.as_slice(),
+        units,
+        rings,
+        depth,
+        limit,
+    ) {
         return Err(Fail::from("no opening"));
     }
-    Ok(Core::new(alloc, formula, start, units, rings, depth)?)
+    Ok(Core::new(alloc, formula, start, units, rings, depth, limit)?)
 }

@@ -82,6 +82,7 @@ pub(crate) fn open(
     text: &'static str,
     rings: u32,
     depth: u32,
+    limit: u64,
 ) -> Result<Core, Fail> {
     let alloc = rt.alloc();
     let Some((vars, lines)) = text.split_once(" variables\n") else {
@@ -107,5 +108,6 @@ pub(crate) fn open(
         units.as_slice(),
         rings,
         depth,
+        limit,
     )
 }

@@ -19,6 +19,7 @@ const KNOWS_ALL: &str = "\
 /// One short: what is propagated does not count, and what is refused does not.
 const AT_1999: &str = "\
 0 reduce = refused
+0 draw = done
 0 learn unit 10 = refused # learned before
 0 propagate unit 9 = done
 0 reduce = refused
@@ -29,13 +30,15 @@ const AT_2000: &str = "\
 0 learn unit 9 = done
 0 reduce = done
 0 reduce = refused
+0 draw = done
 0 learn unit 10 = done
 ";
 
-/// The ring learns 1999 units, all at once.
+/// The ring learns 1999 units, each with a ticket that it draws before, all at once.
 fn learn_units(alloc: Global, core: &mut Core) -> Result<Step, Fail> {
     let mut events = Vec::new(alloc);
     for var in 10..2009 {
+        events.push(Event::Draw { ring: 0 })?;
         events.push(Event::AddUnit {
             ring: 0,
             kind: Kind::Learn,
@@ -47,7 +50,7 @@ fn learn_units(alloc: Global, core: &mut Core) -> Result<Step, Fail> {
 
 #[test]
 fn reduces_after_two_thousand(rt: HostRuntime) -> Result<(), Fail> {
-    let mut core = open(&rt, FOUR, 1, 1)?;
+    let mut core = open(&rt, FOUR, 1, 1, 2001)?;
     walk(&rt, &mut core, &read(rt.alloc(), KNOWS_ALL)?)?;
     assert_eq!(rt; learn_units(rt.alloc(), &mut core)?, Step::Done);
     walk(&rt, &mut core, &read(rt.alloc(), AT_1999)?)?;

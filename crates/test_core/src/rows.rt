@@ -5,11 +5,13 @@
 pub(crate) const EQUAL_LEMMAS: &str = "\
 0 grant = done
 0 take-turn = done
+0 draw = done
 0 learn 50 : 1 2 = done
 0 give-turn = done
 0 open 50 = done
 1 grant = done
 1 take-turn = done
+1 draw = done
 1 learn 60 : 1 2 = done
 1 give-turn = done
 1 open 60 = done
@@ -18,6 +20,7 @@ pub(crate) const EQUAL_LEMMAS: &str = "\
 0 bury 50 = done
 0 give-turn = done
 1 take-turn = done
+1 draw = done
 1 learn unit 2 = done
 1 give-turn = done
 0 bury 50 = refused
@@ -34,6 +37,7 @@ line 1 2 0
 line d 1 2 0
 line 2 0
 units, seen 0 0 0 0
+drawn 3
 ";
 
 /// A cell is put over another into the same slot. What came back out is deleted, and the other ring takes what is left
@@ -41,10 +45,12 @@ units, seen 0 0 0 0
 pub(crate) const PUT_TWICE: &str = "\
 0 grant = done
 0 take-turn = done
+0 draw = done
 0 learn 50 : 1 2 = done
 0 give-turn = done
 0 open 50 = done
 0 take-turn = done
+0 draw = done
 0 learn 60 : 2 3 = done
 0 give-turn = done
 0 open 60 = done
@@ -68,6 +74,7 @@ line 1 2 0
 line 2 3 0
 line d 1 2 0
 units, seen 0 0 0 0
+drawn 2
 ";
 
 /// Two cells are put into the two slots of a class. Nothing comes back out, and the other ring takes both.
@@ -102,6 +109,7 @@ pub(crate) const OPENING_UNITS: &str = "\
 0 propagate unit 2 = done
 0 publish 1 = refused # listed from the start
 0 publish 2 = done
+0 draw = done
 0 learn 50 : 4 3 = done
 0 propagate unit 5 = refused # in no clause that is held
 0 publish 5 = done # a clause of the formula
@@ -116,6 +124,7 @@ line 2 0
 line 4 3 0
 line 5 0
 units 1 2 5, seen 3 1 0 0
+drawn 1
 ";
 
 /// The empty clause is in the formula: nothing is written any more, and a refutation may be known at once.

@@ -1,4 +1,5 @@
-// What is seen of a core, as text: its cells, its slots, the lines of its log, its units, whose turn it is, and its stop.
+// What is seen of a core, as text: its cells, its slots, the lines of its log, its units, whose turn it is, its stop, and
+// its tickets.
 use sat_words::Line;
 use share_core::Core;
 use std::alloc::Global;
@@ -89,6 +90,22 @@ fn write_end(text: &mut String, core: &Core) -> Result<(), Fail> {
     Ok(())
 }
 
+/// How often rings drew, and who has a ticket in hand: nothing if none has drawn.
+fn write_tickets(text: &mut String, core: &Core) -> Result<(), Fail> {
+    let drawn = core.drawn();
+    if drawn == 0 {
+        return Ok(());
+    }
+    write!(text, "drawn {drawn}")?;
+    for ring in 0..RINGS {
+        if core.ticket(ring) {
+            write!(text, ", ticket of {ring}")?;
+        }
+    }
+    text.push_str("\n")?;
+    Ok(())
+}
+
 fn write_cells(text: &mut String, core: &Core) -> Result<(), Fail> {
     for fifth in 0..20 {
         write_cell(text, core, 5 * fifth)?;
@@ -118,5 +135,6 @@ pub(crate) fn state(alloc: Global, core: &Core) -> Result<String, Fail> {
     write_log(&mut text, core)?;
     write_units(&mut text, core)?;
     write_end(&mut text, core)?;
+    write_tickets(&mut text, core)?;
     Ok(text)
 }

@@ -2,7 +2,9 @@
 //
 // A table is read in `events`, its openings stand in `openings`, and what is seen of the core after it is written in `seen`.
 use crate::events::{Row, read};
-use crate::guards::{CELLS, CLAUSES, EXCHANGE, NO_RINGS, TURNS, UNITS};
+use crate::guards::{
+    CELLS, CLAUSES, EXCHANGE, IN_HAND, NO_RINGS, TICKETS, TURNS, UNITS, NO_TICKETS,
+};
 use crate::openings::{EMPTY, FOUR, GIVEN, THREE, open};
 use crate::rows::{ENDED_BEFORE, EQUAL_LEMMAS, OPENING_UNITS, PUT_BESIDE, PUT_TWICE};
 use crate::seen::state;
@@ -62,7 +64,7 @@ fn check_run(
     check_left(rt, core, left)
 }
 
-/// Steps through the row, and then runs its events at once over another core, and compares what they leave.
+/// A row with tickets enough.
 fn check_row(
     rt: &(impl Abort + AllocGlobal),
     opening: &'static str,
@@ -70,13 +72,25 @@ fn check_row(
     depth: u32,
     text: &'static str,
 ) -> Result<(), Fail> {
+    check_limited(rt, opening, rings, depth, 10, text)
+}
+
+/// Steps through the row, and then runs its events at once over another core, and compares what they leave.
+fn check_limited(
+    rt: &(impl Abort + AllocGlobal),
+    opening: &'static str,
+    rings: u32,
+    depth: u32,
+    limit: u64,
+    text: &'static str,
+) -> Result<(), Fail> {
     let Some((table, left)) = text.split_once("leaves\n") else {
         return Err(Fail::from("a row leaves something"));
     };
     let row = read(rt.alloc(), table)?;
-    let mut core = open(rt, opening, rings, depth)?;
+    let mut core = open(rt, opening, rings, depth, limit)?;
     check_steps(rt, &mut core, &row, left)?;
-    let mut core = open(rt, opening, rings, depth)?;
+    let mut core = open(rt, opening, rings, depth, limit)?;
     check_run(rt, &mut core, &row, left)
 }
 
@@ -108,6 +122,13 @@ fn guards_cells(rt: HostRuntime) -> Result<(), Fail> {
 #[test]
 fn guards_exchange(rt: HostRuntime) -> Result<(), Fail> {
     check_row(&rt, THREE, 3, 2, EXCHANGE)
+}
+
+#[test]
+fn guards_tickets(rt: HostRuntime) -> Result<(), Fail> {
+    check_limited(&rt, THREE, 2, 1, 1, TICKETS)?;
+    check_limited(&rt, THREE, 2, 1, 2, IN_HAND)?;
+    check_limited(&rt, THREE, 2, 1, 0, NO_TICKETS)
 }
 
 #[test]

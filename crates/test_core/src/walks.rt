@@ -14,6 +14,9 @@ const RINGS: u32 = 3;
 /// How many slots there are for each two rings and class.
 const DEPTH: u32 = 2;
 
+/// How many clauses the rings may learn together.
+const LIMIT: u64 = 20;
+
 /// How many events a walk tries.
 const EVENTS: u32 = 700;
 
@@ -78,7 +81,7 @@ impl Words {
     fn writing(&mut self, alloc: Global) -> Result<Event, Fail> {
         let ring = self.ring();
         let address = self.address();
-        Ok(match self.below(16) {
+        Ok(match self.below(18) {
             0..=7 => Event::AddClause {
                 ring,
                 kind: self.kind(),
@@ -96,6 +99,7 @@ impl Words {
             },
             12 => Event::AddEmpty { ring },
             13 => Event::Reduce { ring },
+            14 | 15 => Event::Draw { ring },
             _ => Event::Bury { ring, address },
         })
     }
@@ -203,7 +207,7 @@ fn wander(
     last: u64,
     seed: u64,
 ) -> Result<u32, Fail> {
-    let mut core = open(rt, opening, RINGS, DEPTH)?;
+    let mut core = open(rt, opening, RINGS, DEPTH, LIMIT)?;
     let mut words = Words { state: seed };
     let mut done: u32 = 0;
     let mut grants: u64 = RINGS as u64;

@@ -3,7 +3,7 @@ use Rattle.std.proofs.Common.{◌≡◌, ◌≤◌, ◌≢◌, ◌∙◌, ◌==�
 use Rattle.std.specs.Prelude.{slice_get}
 use Rattle.std.specs.List.{range_with_len}
 use Rattle.std.specs.Option.{unwrap_or}
-use Rattle.std.proofs.lemmas.Bool.{or_right}
+use Rattle.std.proofs.lemmas.Bool.{or_right, le-leb}
 use Rattle.sat_words.specs.Literal.{Literal, opposite}
 use Rattle.sat_words.specs.Clause.{has, has_opposites}
 use Rattle.sat_words.specs.declared.shared.Cref.{Cref}
@@ -11,23 +11,22 @@ use Rattle.rup_model.specs.Rup.{rup}
 use Rattle.rup_model.proofs.Derivation.{conflicts_from_derivation}
 use Rattle.atomic_table.specs.declared.shared.Seat.{Seat}
 use Rattle.share_core.specs.declared.stored.ClauseAt.{ClauseAt}
-use Rattle.share_core.specs.declared.part.CoreOpening.{CoreOpening}
 use Rattle.share_rule.specs.declared.Layout.{Layout}
 use Rattle.share_rule.specs.declared.Shared.{Shared}
 use Rattle.share_rule.specs.declared.view.View.{View}
-use Rattle.share_rule.specs.FirstWords.{starts_at, addresses, begun_with}
-use Rattle.share_rule.specs.Layout.{first_cell}
+use Rattle.share_rule.specs.FirstWords.{starts_at, addresses}
 use Rattle.share_rule.specs.Passes.{NoTurns}
 use Rattle.share_rule.specs.Views.{start_glues}
 use Rattle.test_tables.specs.Samples.{IsFirst, IsGathered}
 use Rattle.ring_port.specs.PortState.{Holding, PortState, HoldsStart, held_at, lits_at, lits_in, known}
-use Rattle.ring_port.specs.Port.{is_usable}
+use Rattle.ring_port.specs.Port.{is_usable, start_lits}
+use Rattle.ring_port.specs.Drawing.{Drew}
 use Rattle.ring_port.specs.Deleting.{DroppedOnce, TidiedUpTo}
 use Rattle.ring_port.specs.Exchange.{looked_into, other_rings}
 use Rattle.ring_port.proofs.Holdings.{held_is_known, lits_of_holding}
 use Rattle.ring_port.proofs.PlainLemmas.{dropped_others, same_lookup}
 use Rattle.ring_pass.specs.RingState.{holding_of, begun_as}
-use Rattle.test_pass.specs.Samples.{plus, minus, first, second, third, spare, four, pair, later, IsAt, IsPlayer, IsFree, IsBegun, IsIdle, IsDone, BeginsWithFour, IsHome, Stays, Keeps}
+use Rattle.test_pass.specs.Samples.{plus, minus, first, second, third, spare, four, pair, later, IsAt, IsPlayer, IsFree, HasTicket, IsBegun, IsReady, IsIdle, IsReadyAgain, IsDone, BeginsWithFour, IsHome, Stays, Keeps}
 
 -- What follows
 
@@ -111,6 +110,7 @@ pair_left old new a k there h = (
     player = player_left old new a pair is_start refl refl refl refl k there h.player;
     taken = ap (λ (s : PortState). s.taken) k.state ∙ h.taken;
     free = subst (λ (s : PortState). IsFree s later) (sym k.state) h.free;
+    draws = record { none = ap (λ (s : PortState). s.ticket) k.state ∙ h.draws.none; left = subst (λ (s : PortState). s.found ≤ s.limit) (sym k.state) h.draws.left };
   },
   record { same = stays_left old new a k; spare = λ b at. at_left old new a b spare pair is_start refl refl k there at },
 )
@@ -147,6 +147,53 @@ player_tidied s t n k h =
       two = (h.two.0, at_same s t h.two.0 second same h.two.1);
       three = (h.three.0, at_same s t h.three.0 third same h.three.1);
     }
+
+-- Draws
+
+player_drew : (s t : PortState) → Drew s t → IsPlayer s → IsPlayer t
+player_drew s t k h =
+    let same = ap (λ (x : PortState). x.held) k.state in
+    record {
+      vars = ap (λ (x : PortState). x.vars) k.state ∙ h.vars;
+      rings = ap (λ (x : PortState). x.rings) k.state ∙ h.rings;
+      depth = subst (λ (n : ℕ). 1 ≤ n) (sym (ap (λ (x : PortState). x.depth) k.state)) h.depth;
+      usable = ap (λ (x : PortState). is_usable x.refused) k.state ∙ h.usable;
+      one = (h.one.0, at_same s t h.one.0 first same h.one.1);
+      two = (h.two.0, at_same s t h.two.0 second same h.two.1);
+      three = (h.three.0, at_same s t h.three.0 third same h.three.1);
+    }
+
+ticket_drew : (s t : PortState) → Drew s t → t.found ≤ s.limit → HasTicket t
+ticket_drew s t k few = record {
+  some = ap (λ (x : PortState). x.ticket) k.state ∙ le-leb t.found s.limit few;
+  left = subst (λ (n : ℕ). t.found ≤ n) (sym (ap (λ (x : PortState). x.limit) k.state)) few;
+}
+
+-- a draw that gives a ticket readies a ring that has done nothing
+pub drew_first : (s t : PortState) → Drew s t → t.found ≤ s.limit → IsBegun s → IsReady t
+drew_first s t k few h = record {
+  player = player_drew s t k h.player;
+  starts = ap start_lits k.state ∙ h.starts;
+  mine = ap (λ (x : PortState). x.mine) k.state ∙ h.mine;
+  taken = ap (λ (x : PortState). x.taken) k.state ∙ h.taken;
+  drew = ticket_drew s t k few;
+}
+
+-- and one that may learn the later clause
+pub drew_again : (s t : PortState) → Drew s t → t.found ≤ s.limit → IsIdle s → IsReadyAgain t
+drew_again s t k few h = record {
+  player = player_drew s t k h.player;
+  taken = ap (λ (x : PortState). x.taken) k.state ∙ h.taken;
+  free = subst (λ (x : PortState). IsFree x later) (sym k.state) h.free;
+  drew = ticket_drew s t k few;
+}
+
+-- it keeps the clauses
+pub drew_keeps : (s t : PortState) → Drew s t → Keeps s t
+drew_keeps s t k = record {
+  same = record { ring = ap (λ (x : PortState). x.ring) k.state; depth = ap (λ (x : PortState). x.depth) k.state; home = ap (λ (x : PortState). x.home) k.state };
+  spare = λ a at. at_same s t a spare (ap (λ (x : PortState). x.held) k.state) at;
+}
 
 -- How a ring begins
 
@@ -187,6 +234,7 @@ module _ {B : Type 0} (t : Shared B) (s : PortState) (v : View) (r : ℕ) (home 
     starts = ap (λ (hs : List Holding). map (λ (h : Holding). h.lits) hs) start_is;
     mine = ap (λ (x : PortState). x.mine) is;
     taken = ap (λ (x : PortState). x.taken) is;
+    draws = record { none = ap (λ (x : PortState). x.ticket) is; left = (let none_found = ap (λ (x : PortState). x.found) is in omega arith) };
   }
 
   pub spare_at : (c : Cref) → slice_get cs 3 ≡ Some c → IsAt s c.address spare

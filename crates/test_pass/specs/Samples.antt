@@ -68,18 +68,45 @@ pub record IsPlayer (s : PortState) : Type 0 where
 abbrev pub IsFree : PortState → List Literal → Type 0
 IsFree s c = fresh (start_lits s) s.mine s.ring c ≡ true
 
+-- the ring has no ticket in hand, and each draw of it so far found one left
+pub record CanDraw (s : PortState) : Type 0 where
+  pub none : s.ticket ≡ false
+  pub left : s.found ≤ s.limit
+
+-- the ring has a ticket in hand, and found it left
+pub record HasTicket (s : PortState) : Type 0 where
+  pub some : s.ticket ≡ true
+  pub left : s.found ≤ s.limit
+
 -- a ring that has done nothing yet
 pub record IsBegun (s : PortState) : Type 0 where
   pub player : IsPlayer s
   pub starts : start_lits s ≡ map (λ (x : ℕ × List Literal). x.1) four
   pub mine : s.mine ≡ []
   pub taken : s.taken ≡ []
+  pub draws : CanDraw s
 
--- that took no clause, and may learn the later one
+-- that has drawn a ticket
+pub record IsReady (s : PortState) : Type 0 where
+  pub player : IsPlayer s
+  pub starts : start_lits s ≡ map (λ (x : ℕ × List Literal). x.1) four
+  pub mine : s.mine ≡ []
+  pub taken : s.taken ≡ []
+  pub drew : HasTicket s
+
+-- that took no clause, and may learn the later one after a draw
 pub record IsIdle (s : PortState) : Type 0 where
   pub player : IsPlayer s
   pub taken : s.taken ≡ []
   pub free : IsFree s later
+  pub draws : CanDraw s
+
+-- that took no clause, and may learn the later one
+pub record IsReadyAgain (s : PortState) : Type 0 where
+  pub player : IsPlayer s
+  pub taken : s.taken ≡ []
+  pub free : IsFree s later
+  pub drew : HasTicket s
 
 -- a ring that took no clause
 pub record IsDone (s : PortState) : Type 0 where

@@ -62,19 +62,22 @@ pub fn new_book<S: Sink + Drop>(alloc: Global, formula: &Formula, sink: S) -> Re
 /// A table with its first pass and the addresses of the start cells.
 pub type Opened<S> = (Shared<Book<S>>, Pass<Book<S>>, Vec<Cref>);
 
+/// How many clauses the rings may learn together.
+const CONFLICTS: u64 = 4;
+
 /// A table for two rings over the four clauses, with so many slots for each class.
 pub fn open_four<S: Sink + Drop>(alloc: Global, depth: u32, sink: S) -> Result<Opened<S>, Fail>
     requires empty { IsEmptyWhereTold (S.written sink) }
     requires deep { 1 ≤ depth }
     ensures first { IfOk result (λ m. IsFirst m.0 m.1 0) }
     ensures parts { IfOk result (λ m. m.1.me.0.parts ≡ []) }
-    ensures layout { IfOk result (λ m. m.0.layout ≡ record { rings = 2; vars = 3; words = 64; depth = depth }) }
+    ensures layout { IfOk result (λ m. m.0.layout ≡ record { rings = 2; vars = 3; words = 64; depth = depth; conflicts = 4 }) }
     ensures opening { IfOk result (λ m. m.1.me.0.opening ≡ begun_with (first ∷ second ∷ third ∷ spare ∷ []) m.0.layout [] four []) }
     ensures four { IfOk result (λ m. BeginsWithFour m.0 m.1.me.0.opening m.2.items) }
 {
     let problem = make_four(alloc)?;
     let book = new_book(alloc, &problem.formula, sink)?;
-    open_with(alloc, &problem, 2, 64, depth, book)
+    open_with(alloc, &problem, 2, 64, depth, CONFLICTS, book)
 }
 
 /// The address of the fourth cell.

@@ -5,15 +5,17 @@ ghost use Rattle.ring_port.specs.PortState.{held_at, head_of, lits_at};
 ghost use Rattle.ring_port.specs.Port.{LearnedClause, WroteUnit};
 ghost use Rattle.ring_port.specs.Deleting.{IsNotTaken, DroppedOnce};
 ghost use Rattle.ring_port.specs.Exchange.{class_at, other_rings, OfferedAs, Polled};
-ghost use Rattle.test_pass.specs.Samples.{plus, pair, later, spare, IsAt, IsPlayer, IsBegun, IsIdle, IsDone, IsListener, Stays, Keeps};
+ghost use Rattle.test_pass.specs.Samples.{plus, pair, later, spare, IsAt, IsPlayer, IsBegun, IsReady, IsIdle, IsReadyAgain, IsDone, IsListener, Stays, Keeps};
 ghost use Rattle.test_pass.specs.Given.{GaveUp, GaveAndWrote, GaveAndTook};
 
-use ring_port::Port;
+use ring_port::{Drawn, Port};
 use sat_words::{Cref, Head, Lit};
 
 /// What a ring has missed.
 #[derive(Clone, Copy, Debug)]
 pub enum Miss {
+    /// It drew no ticket.
+    NoTicket,
     /// It learned no clause.
     NotLearned,
     /// It offered a clause to no ring, or to several.
@@ -36,9 +38,33 @@ pub enum Miss {
     Memory,
 }
 
+/// Draws the ticket for the first clause.
+pub fn draw_first<P: Port>(port: &mut P) -> Result<(), Miss>
+    requires { IsBegun (P.state port.old) }
+    ensures ready { OnOk result (IsReady (P.state port.new)) }
+    ensures same { OnOk result (Keeps (P.state port.old) (P.state port.new)) }
+{
+    match port.draw() {
+        Drawn::Ticket => Ok(()),
+        Drawn::Gone => Err(Miss::NoTicket),
+    }
+}
+
+/// Draws the ticket for the later clause.
+pub fn draw_again<P: Port>(port: &mut P) -> Result<(), Miss>
+    requires { IsIdle (P.state port.old) }
+    ensures ready { OnOk result (IsReadyAgain (P.state port.new)) }
+    ensures same { OnOk result (Keeps (P.state port.old) (P.state port.new)) }
+{
+    match port.draw() {
+        Drawn::Ticket => Ok(()),
+        Drawn::Gone => Err(Miss::NoTicket),
+    }
+}
+
 /// Learns `1 2`: if it is held.
 pub fn learn_pair<P: Port>(port: &mut P) -> Result<Cref, Miss>
-    requires { IsBegun (P.state port.old) }
+    requires { IsReady (P.state port.old) }
     ensures idle { OnOk result (IsIdle (P.state port.new)) }
     ensures learned { IfOk result (LearnedClause (P.state port.old) (P.state port.new) pair 1) }
     ensures there { IfOk result (λ c. IsAt (P.state port.new) c.address pair) }
@@ -54,7 +80,7 @@ pub fn learn_pair<P: Port>(port: &mut P) -> Result<Cref, Miss>
 
 /// Learns the unit 2, which is listed then.
 pub fn learn_two<P: Port>(port: &mut P) -> Result<(), Miss>
-    requires { IsBegun (P.state port.old) }
+    requires { IsReady (P.state port.old) }
     ensures learned { OnOk result (WroteUnit (P.state port.old) (P.state port.new) (plus 2) Learn None) }
     ensures same { OnOk result (Stays (P.state port.old) (P.state port.new)) }
 {
@@ -66,7 +92,7 @@ pub fn learn_two<P: Port>(port: &mut P) -> Result<(), Miss>
 
 /// Learns `2 -3`: if it is held.
 pub fn learn_later<P: Port>(port: &mut P) -> Result<Cref, Miss>
-    requires { IsIdle (P.state port.old) }
+    requires { IsReadyAgain (P.state port.old) }
     ensures done { OnOk result (IsDone (P.state port.new)) }
     ensures learned { IfOk result (LearnedClause (P.state port.old) (P.state port.new) later 1) }
     ensures there { IfOk result (λ c. IsAt (P.state port.new) c.address later) }
@@ -215,9 +241,11 @@ pub fn offer_both<P: Port>(port: &mut P) -> Result<(Cref, u64, u64), Miss>
     ensures many { IfOk result (λ x. (x.1 ≡ length (other_rings (P.state port.old))) × (x.2 ≡ length (other_rings (P.state port.old)))) }
     ensures same { OnOk result (Keeps (P.state port.old) (P.state port.new)) }
 {
+    draw_first(port)?;
     let pair = learn_pair(port)?;
     let offered = offer_pair(port, pair);
     give_pair_up(port, pair)?;
+    draw_again(port)?;
     let later = learn_later(port)?;
     let again = offer_later(port, later);
     Ok((later, offered, again))

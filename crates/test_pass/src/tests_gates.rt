@@ -4,7 +4,8 @@ ghost use Rattle.test_pass.specs.Samples.{IsBegun, IsListener, IsPlayer, Stays};
 
 use crate::ports::{begin_port, join_ring, open_four};
 use crate::rows::{
-    Miss, give_pair_up, hear_once, learn_pair, learn_two, offer_both, offer_pair, write_two,
+    Miss, draw_first, give_pair_up, hear_once, learn_pair, learn_two, offer_both, offer_pair,
+    write_two,
 };
 use crossbeam_utils::Backoff;
 use io_edge::MemSink;
@@ -149,6 +150,7 @@ fn put_pair<P: Port>(port: &mut P) -> Result<(), Miss>
     requires { IsBegun (P.state port.old) }
     ensures { OnOk result (Stays (P.state port.old) (P.state port.new)) }
 {
+    draw_first(port)?;
     let pair = learn_pair(port)?;
     match offer_pair(port, pair) {
         1 => Ok(()),
@@ -172,6 +174,7 @@ fn bury_pair<P: Port>(port: &mut P) -> Result<(), Miss>
     requires { IsBegun (P.state port.old) }
     ensures { OnOk result (Stays (P.state port.old) (P.state port.new)) }
 {
+    draw_first(port)?;
     let pair = learn_pair(port)?;
     give_pair_up(port, pair)?;
     delete(port)
@@ -193,10 +196,14 @@ fn go_on<P: Port>(port: &mut P, case: Case) -> Result<(), Miss>
 {
     match case {
         Case::Lemma => {
+            draw_first(port)?;
             let _pair = learn_pair(port)?;
             Ok(())
         }
-        Case::Unit => learn_two(port),
+        Case::Unit => {
+            draw_first(port)?;
+            learn_two(port)
+        }
         Case::Offer => put_pair(port),
         Case::Deletion => bury_pair(port),
         Case::Return => bury_returned(port),
@@ -218,6 +225,7 @@ fn write_lines<P: Port>(port: &mut P) -> Result<(), Miss>
     requires { IsBegun (P.state port.old) }
     ensures { OnOk result (Stays (P.state port.old) (P.state port.new)) }
 {
+    draw_first(port)?;
     let _pair = learn_pair(port)?;
     write_two(port)
 }

@@ -1,5 +1,5 @@
 -- What the port of three rings holds.
-use Rattle.std.proofs.Common.{◌≡◌, ◌∙◌, ℕ, ◌+◌, ◌-◌, ◌<◌, ◌==◌, cond, Bool, true, false, List, [], ◌∷◌, ◌++◌, map, length, take, drop, get_or, refl, sym, ap, subst, inl, inr, arith, Some, None, IsSome, IfSome}
+use Rattle.std.proofs.Common.{◌≡◌, ◌∙◌, ℕ, ◌+◌, ◌-◌, ◌^◌, ◌<◌, ◌==◌, cond, Bool, true, false, List, [], ◌∷◌, ◌++◌, map, length, take, drop, get_or, refl, sym, ap, subst, inl, inr, arith, Some, None, IsSome, IfSome}
 use Rattle.std.specs.List.{find}
 use Rattle.std.specs.declared.option.Option.{Option}
 use Rattle.std.proofs.Math.Seq.{take-length}
@@ -15,8 +15,9 @@ use Rattle.ring_port.specs.Port.{KeepsHeld}
 use Rattle.ring_port.specs.Exchange.{TookClause}
 use Rattle.ring_port.proofs.Holdings.{All_In}
 use Rattle.ring_port.proofs.PlainLemmas.{kept_pushed}
-use Rattle.test_ports.specs.Crowd.{Asked, asked, crowd_of, front, IsLast, slot_of, looks_before}
+use Rattle.test_ports.specs.Crowd.{Asked, asked, all_left, crowd_of, front, IsLast, slot_of, looks_before}
 use Rattle.test_ports.specs.declared.crowd.Poll.{Poll}
+use Rattle.test_ports.specs.declared.crowd.Tickets.{Tickets}
 
 pub held_same : (s u : PortState) (a : ℕ) → u.held ≡ s.held → held_at u a ≡ held_at s a
 unfolding held_at
@@ -83,15 +84,15 @@ held_here s l taken stop looks refused polled a u e last some =
 
 -- How it begins
 
-pub crowd_holds : (s : PortState) (l : ℕ) → IsLast s l → s.held ≡ s.start → HoldsStart s → HoldsStart (crowd_of s None None 0 None (asked 0 [] 0))
-crowd_holds s l last held_is h k d lt =
+pub crowd_holds : (s : PortState) (l limit : ℕ) → IsLast s l → s.held ≡ s.start → HoldsStart s → HoldsStart (crowd_of s None None 0 None (asked 0 [] 0 (all_left limit)))
+crowd_holds s l limit last held_is h k d lt =
     let x = get_or (front s.start) k d in
     let there : held_at s x.address ≡ Some x = All-take (λ (y : Holding). held_at s y.address ≡ Some y) (length s.start - 1) s.start h k d lt in
     let among : In x (front s.held) = subst (λ (hs : List Holding). In x (front hs)) (sym held_is) (In_get_or (front s.start) k d lt) in
-    sym (kept_pushed (crowd_of s None None 0 None (asked 0 [] 0)) s last.clause last.there x.address (held_found (crowd_of s None None 0 None (asked 0 [] 0)) x among)) ∙ there
+    sym (kept_pushed (crowd_of s None None 0 None (asked 0 [] 0 (all_left limit))) s last.clause last.there x.address (held_found (crowd_of s None None 0 None (asked 0 [] 0 (all_left limit))) x among)) ∙ there
 
-pub crowd_begins : (s : PortState) → IsPort s → IsPort (crowd_of s None None 0 None (asked 0 [] 0))
-crowd_begins s p = record {
+pub crowd_begins : (s : PortState) (limit : ℕ) → limit < 2 ^ 64 → IsPort s → IsPort (crowd_of s None None 0 None (asked 0 [] 0 (all_left limit)))
+crowd_begins s limit fits p = record {
   held = All-take (IsKept s.vars) (length s.held - 1) s.held p.held;
   one = λ h k x y e. p.one h k (In_Contains s.held h (in_front s.held h (Contains_In (front s.held) h x))) (In_Contains s.held k (in_front s.held k (Contains_In (front s.held) k y))) e;
   waiting = λ k d lt. absurd (omega arith);
@@ -105,13 +106,14 @@ crowd_begins s p = record {
   stop = tt;
   ring = omega arith;
   deep = omega arith;
+  few = fits;
 }
 
 -- What stays if nothing is taken
 
-pub crowd_goes_on : (s : PortState) (taken : Option Cref) (stop other : Option Stop) (looks more : ℕ) (refused told : Option PortStop) (polled polled_more : Asked) → IsPort (crowd_of s taken stop looks refused polled) → IfSome other (IsStop 3)
+pub crowd_goes_on : (s : PortState) (taken : Option Cref) (stop other : Option Stop) (looks more : ℕ) (refused told : Option PortStop) (polled polled_more : Asked) → polled_more.tickets.limit ≡ polled.tickets.limit → IsPort (crowd_of s taken stop looks refused polled) → IfSome other (IsStop 3)
     → IsPort (crowd_of s taken other more told polled_more)
-crowd_goes_on s taken stop other looks more refused told polled polled_more p is_stop = record {
+crowd_goes_on s taken stop other looks more refused told polled polled_more same p is_stop = record {
   held = p.held;
   one = p.one;
   waiting = p.waiting;
@@ -125,18 +127,19 @@ crowd_goes_on s taken stop other looks more refused told polled polled_more p is
   stop = is_stop;
   ring = p.ring;
   deep = p.deep;
+  few = subst (λ (n : ℕ). n < 2 ^ 64) (sym same) p.few;
 }
 
 -- Polls
 
 -- one poll more
 abbrev pub asked_again : ℕ → ℕ → ℕ → Asked → Asked
-asked_again from class place q = record { polled = one_more q.polled; polls = q.polls ++ record { ring = from; class = class; place = place } ∷ []; polls_after = q.polls_after ++ q.caught_up ∷ []; caught_up = q.caught_up }
+asked_again from class place q = record { polled = one_more q.polled; polls = q.polls ++ record { ring = from; class = class; place = place } ∷ []; polls_after = q.polls_after ++ q.caught_up ∷ []; caught_up = q.caught_up; tickets = q.tickets }
 
-pub asked_more : (n k m : ℕ) (ps qs : List Poll) (from class place : ℕ) → m ≡ one_more n → qs ≡ ps ++ record { from = from; class = class; place = place; caught_up = k } ∷ [] → asked m qs k ≡ asked_again from class place (asked n ps k)
-asked_more n k m ps qs from class place more is =
+pub asked_more : (n k m : ℕ) (ps qs : List Poll) (from class place : ℕ) (ti : Tickets) → m ≡ one_more n → qs ≡ ps ++ record { from = from; class = class; place = place; caught_up = k } ∷ [] → asked m qs k ti ≡ asked_again from class place (asked n ps k ti)
+asked_more n k m ps qs from class place ti more is =
     let x : Poll = record { from = from; class = class; place = place; caught_up = k } in
-    (λ i. asked (more i) (is i) k) ∙ (λ i. record { polled = one_more n; polls = map-append slot_of ps (x ∷ []) i; polls_after = map-append looks_before ps (x ∷ []) i; caught_up = k })
+    (λ i. asked (more i) (is i) k ti) ∙ (λ i. record { polled = one_more n; polls = map-append slot_of ps (x ∷ []) i; polls_after = map-append looks_before ps (x ∷ []) i; caught_up = k; tickets = ti })
 
 -- How the last clause is taken
 
@@ -152,8 +155,8 @@ module _ (s : PortState) (c : Cref) (last : IsLast s c.address) (port : IsPort s
     state = λ i. record (crowd_of s (Some c) stop looks refused (e i)) { held = last.there i };
   }
 
-  pub port_taken : (n : Asked) → IsPort (crowd_of s None stop looks refused polled) → IsPort (crowd_of s (Some c) stop looks refused n)
-  port_taken n old = record {
+  pub port_taken : (n : Asked) → n.tickets.limit ≡ polled.tickets.limit → IsPort (crowd_of s None stop looks refused polled) → IsPort (crowd_of s (Some c) stop looks refused n)
+  port_taken n same old = record {
     held = port.held;
     one = port.one;
     waiting = old.waiting;
@@ -169,6 +172,7 @@ module _ (s : PortState) (c : Cref) (last : IsLast s c.address) (port : IsPort s
     stop = old.stop;
     ring = old.ring;
     deep = old.deep;
+    few = subst (λ (k : ℕ). k < 2 ^ 64) (sym same) old.few;
   }
 
   pub keeps_held : (n : Asked) → KeepsHeld (crowd_of s None stop looks refused polled) (crowd_of s (Some c) stop looks refused n)

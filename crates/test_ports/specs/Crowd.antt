@@ -5,6 +5,7 @@ use Rattle.sat_words.specs.declared.shared.Stop.{Stop}
 use Rattle.ring_port.specs.declared.stops.PortStop.{PortStop}
 use Rattle.ring_port.specs.PortState.{Holding, PortState, Slot}
 use Rattle.test_ports.specs.declared.crowd.Poll.{Poll}
+use Rattle.test_ports.specs.declared.crowd.Tickets.{Tickets}
 
 -- all but the last
 abbrev pub front : List Holding → List Holding
@@ -20,12 +21,14 @@ abbrev pub taken_of : Option Cref → List ℕ
 taken_of None = []
 taken_of (Some c) = c.address ∷ []
 
--- how often it was polled and for which slots, how often no unit was left before each of these polls, and how often until now
+-- how often it was polled and for which slots, how often no unit was left before each of these polls, and how often until now; the
+-- tickets
 pub record Asked : Type 0 where
   pub polled : ℕ
   pub polls : List Slot
   pub polls_after : List ℕ
   pub caught_up : ℕ
+  pub tickets : Tickets
 
 -- the slot that a poll looks into
 abbrev pub slot_of : Poll → Slot
@@ -35,9 +38,13 @@ slot_of p = record { ring = p.from; class = p.class; place = p.place }
 abbrev pub looks_before : Poll → ℕ
 looks_before p = p.caught_up
 
--- what is asked of the slots at this number of polls
-abbrev pub asked : ℕ → List Poll → ℕ → Asked
-asked polled ps caught_up = record { polled = polled; polls = map slot_of ps; polls_after = map looks_before ps; caught_up = caught_up }
+-- what is asked of the other rings at this number of polls
+abbrev pub asked : ℕ → List Poll → ℕ → Tickets → Asked
+asked polled ps caught_up tickets = record { polled = polled; polls = map slot_of ps; polls_after = map looks_before ps; caught_up = caught_up; tickets = tickets }
+
+-- so many tickets, none of which is drawn
+abbrev pub all_left : ℕ → Tickets
+all_left limit = record { in_hand = false; found = 0; limit = limit }
 
 -- it starts with all clauses of the port in memory but the last, has no units and writes nothing; the other rings have nothing
 -- for it but this last one; each two rings have two slots for each class
@@ -64,6 +71,9 @@ crowd_of s taken stop looks refused q = record {
   rings = 3;
   depth = 2;
   last = None;
+  ticket = q.tickets.in_hand;
+  found = q.tickets.found;
+  limit = q.tickets.limit;
   stop = stop;
   looks = looks;
   refused = refused;

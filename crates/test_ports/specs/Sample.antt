@@ -48,6 +48,9 @@ sample_state = record {
   rings = 2;
   depth = 2;
   last = None;
+  ticket = false;
+  found = 0;
+  limit = 1;
   stop = Some (record { kind = 1; ring = 1 });
   looks = 0;
   refused = None;
@@ -64,11 +67,14 @@ put_first = record { ring = 1; class = 0; place = 0; address = 1 }
 pub enough : List Entry
 enough = map (λ n. Add (record { ring = 0; number = n; lits = []; kind = Learn })) (range_with_len 4 LEARNED_PER_REDUCTION)
 
--- the port at its stages: at 1 the first clause was learned last, at 2 it was offered, and at 3 enough was learned to reduce
-abbrev pub sample_at : ℕ → PortState
-sample_at n = record sample_state {
+-- the port at its stages: at 1 the first clause was learned last, at 2 it was offered, and at 3 enough was learned to reduce; before
+-- and after the ticket was drawn
+abbrev pub sample_at : ℕ → Bool → PortState
+sample_at n drawn = record sample_state {
   mine = if n == 3 then enough else [];
   shared = if n == 2 then 1 else 0;
   puts = if n == 2 then put_first ∷ [] else [];
   last = if n == 1 then Some 1 else None;
+  ticket = drawn;
+  found = if drawn then 1 else 0;
 }

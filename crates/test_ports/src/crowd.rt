@@ -1,10 +1,10 @@
 //! The second of three rings: another ring's stop appears, a clause is handed over, and each line is refused.
 ghost use Rattle.std.specs.Prelude.{◌≡◌, [], None, map, IfOk};
 ghost use Rattle.ring_port.specs.PortState.{Holding, IsPort, HoldsStart};
-ghost use Rattle.test_ports.specs.Crowd.{asked, crowd_of};
+ghost use Rattle.test_ports.specs.Crowd.{asked, all_left, crowd_of};
 
 use drat_text::LineOut;
-use ring_port::{PlainPort, Port, PortStop, Set};
+use ring_port::{Drawn, PlainPort, Port, PortStop, Set};
 use sat_words::{Cref, Head, Lit, NoRoom, STOP_SAT, Stop};
 use std::alloc::Global;
 use std::marker::Model;
@@ -34,6 +34,17 @@ pub struct Gift {
     pub place: u32,
 }
 
+/// The tickets of the three rings, as the second of them knows them.
+#[derive(Drop)]
+struct Tickets {
+    /// A ticket is in hand.
+    in_hand: bool,
+    /// One more than the number of tickets that had been drawn before its last draw, or 0.
+    found: u128,
+    /// How many there are.
+    limit: u64,
+}
+
 /// How many slots each two rings have for each class.
 const DEPTH: u32 = 2;
 
@@ -51,6 +62,7 @@ pub struct Crowd<L: LineOut> {
     stop: Option<Stop>,
     looks: u64,
     refused: Option<PortStop>,
+    tickets: Tickets,
     /// How many looks find no stop yet.
     quiet: u64,
     /// Whether memory is what lines lack, or room.
@@ -70,9 +82,9 @@ impl<L: LineOut> Model for Crowd<L> {
 
     ghost Value = { PortState };
 
-    ghost view = { λ p. crowd_of p.inner.state p.taken p.stop p.looks p.refused (asked p.polled p.polls.items p.caught_up) };
+    ghost view = { λ p. crowd_of p.inner.state p.taken p.stop p.looks p.refused (asked p.polled p.polls.items p.caught_up p.tickets) };
 
-    ghost invariant = { λ p. IsPort (crowd_of p.inner.state p.taken p.stop p.looks p.refused (asked p.polled p.polls.items p.caught_up)) × IsLast p.inner.state p.last.address × IsPort p.inner.state };
+    ghost invariant = { λ p. IsPort (crowd_of p.inner.state p.taken p.stop p.looks p.refused (asked p.polled p.polls.items p.caught_up p.tickets)) × IsLast p.inner.state p.last.address × IsPort p.inner.state };
 }
 
 /// The stop of the third ring.
@@ -108,18 +120,20 @@ impl<L: LineOut> Crowd<L> {
 
 impl<L: LineOut + Drop> Crowd<L> {
     /// Over this port, whose last clause another ring has: with the addresses of the others, which the ring starts with. The
-    /// clause is handed over at the first such poll, or never. So many looks find no stop; lines lack memory, or room.
+    /// clause is handed over at the first such poll, or never. So many looks find no stop; lines lack memory, or room. There are
+    /// so many tickets.
     pub fn over(
         alloc: Global,
         inner: PlainPort<L>,
         gift: Option<Gift>,
         quiet: u64,
         memory: bool,
+        limit: u64,
     ) -> Result<(Crowd<L>, Vec<Cref>), Fail>
         requires port { IsPort inner.state }
         requires held { inner.state.held ≡ inner.state.start }
         requires holds { HoldsStart inner.state }
-        ensures port { IfOk result (λ made. made.0 ≡ crowd_of inner.state None None 0 None (asked 0 [] 0)) }
+        ensures port { IfOk result (λ made. made.0 ≡ crowd_of inner.state None None 0 None (asked 0 [] 0 (all_left limit))) }
         ensures holds { IfOk result (λ made. HoldsStart made.0) }
         ensures start { IfOk result (λ made. made.1.items ≡ map (λ (h : Holding). record { address = h.address }) made.0.start) }
     {
@@ -135,6 +149,11 @@ impl<L: LineOut + Drop> Crowd<L> {
             stop: None,
             looks: 0,
             refused: None,
+            tickets: Tickets {
+                in_hand: false,
+                found: 0,
+                limit,
+            },
             quiet,
             memory,
             glue: None,
@@ -182,6 +201,18 @@ impl<L: LineOut> Port for Crowd<L> {
         });
         self.refused = Some(stop);
         Err(stop)
+    }
+
+    /// Another ring draws after each draw of this one.
+    fn draw(&mut self) -> Drawn {
+        let drawn = if self.tickets.found == 0 { 1 } else { 2 };
+        self.tickets.found += drawn;
+        self.tickets.in_hand = self.tickets.found <= self.tickets.limit as u128;
+        if self.tickets.in_hand {
+            Drawn::Ticket
+        } else {
+            Drawn::Gone
+        }
     }
 
     fn derive(&mut self, _lits: &[Lit], _glue: u32) -> Result<Cref, PortStop> {

@@ -2,17 +2,19 @@
 ghost use Rattle.std.specs.Prelude.{◌≡◌, ◌<◌, Some, length, slice_get};
 ghost use Rattle.test_ports.specs.Sample.{sample_state, sample_at};
 
-use ring_port::{Port, PortStop, Set};
+use ring_port::{Drawn, Port, PortStop, Set};
 use sat_words::{Cref, Head, Lit, STOP_SAT, Stop};
 
 /// The port of the first of two rings, which have two slots for each class, over the variables 1 to 5. It holds three clauses at the addresses 1 to 3: `-1 2`,
 /// `-4 -1 5` and `-4 -2 -5`. The units 1 and 4 were seen, and the other ring has stopped. Each call that writes is refused
-/// for want of memory.
+/// for want of memory. There is one ticket.
 #[derive(Drop)]
 pub struct SamplePort {
     /// 1: the first clause was learned last; 2: it was offered; 3: as many lemmas were learned as a reduction needs. At any
     /// other, 0 for one, nothing was learned.
     pub stage: u8,
+    /// Whether the ticket was drawn.
+    pub drawn: bool,
     /// How often a clause was looked at: the calls of `head` and `read_lit`, at most 2^64 - 1.
     pub loads: u64,
 }
@@ -44,7 +46,7 @@ fn pick(lits: &[Lit], i: u32) -> Lit
 }
 
 impl Port for SamplePort {
-    ghost state = { λ r. sample_at r.stage };
+    ghost state = { λ r. sample_at r.stage r.drawn };
 
     fn vars(&self) -> u32 {
         5
@@ -86,6 +88,11 @@ impl Port for SamplePort {
 
     fn learn(&mut self, _lits: &[Lit], _glue: u32) -> Result<Option<Cref>, PortStop> {
         Err(PortStop::Memory)
+    }
+
+    fn draw(&mut self) -> Drawn {
+        self.drawn = true;
+        Drawn::Ticket
     }
 
     fn derive(&mut self, _lits: &[Lit], _glue: u32) -> Result<Cref, PortStop> {

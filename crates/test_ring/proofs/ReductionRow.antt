@@ -69,13 +69,13 @@ opens out entries last = record {
   };
 }
 
-begun_row : (out : LineState) → IsPort (begun_with 3 row_starts [] out) → IsRow (begun_with 3 row_starts [] out)
+begun_row : (out : LineState) → IsPort (begun_with 3 row_starts [] out 0) → IsRow (begun_with 3 row_starts [] out 0)
 unfolding held_at
 begun_row out port = record { vars = refl; source = refl; usable = refl; taken = refl; port = port }
 
-pub begins : (s : PortState) (ss : List (ℕ × List Literal)) (us : List Literal) (out : LineState) → ss ≡ row_starts → us ≡ [] → s ≡ begun_with 3 ss us out → IsPort s → IsRow s
+pub begins : (s : PortState) (ss : List (ℕ × List Literal)) (us : List Literal) (out : LineState) → ss ≡ row_starts → us ≡ [] → s ≡ begun_with 3 ss us out 0 → IsPort s → IsRow s
 begins s ss us out e f g port =
-    let is = g ∙ ap (λ (xs : List (ℕ × List Literal)). begun_with 3 xs us out) e ∙ ap (λ (ls : List Literal). begun_with 3 row_starts ls out) f in
+    let is = g ∙ ap (λ (xs : List (ℕ × List Literal)). begun_with 3 xs us out 0) e ∙ ap (λ (ls : List Literal). begun_with 3 row_starts ls out 0) f in
     subst IsRow (sym is) (begun_row out (subst IsPort is port))
 
 pub source_is : (s : PortState) → IsRow s → lits_at s 0 ≡ source

@@ -64,12 +64,12 @@ opens out entries last = record {
   };
 }
 
-begun_row : (out : LineState) → IsRow (begun_with 3 row_starts [] out)
+begun_row : (out : LineState) → IsRow (begun_with 3 row_starts [] out 0)
 unfolding held_at
 begun_row out = record { vars = refl; first = refl; second = refl; usable = refl; taken = refl }
 
-pub begins : (s : PortState) (ss : List (ℕ × List Literal)) (us : List Literal) (out : LineState) → ss ≡ row_starts → us ≡ [] → s ≡ begun_with 3 ss us out → IsRow s
-begins s ss us out e f g = subst IsRow (sym (g ∙ ap (λ (xs : List (ℕ × List Literal)). begun_with 3 xs us out) e ∙ ap (λ (ls : List Literal). begun_with 3 row_starts ls out) f)) (begun_row out)
+pub begins : (s : PortState) (ss : List (ℕ × List Literal)) (us : List Literal) (out : LineState) → ss ≡ row_starts → us ≡ [] → s ≡ begun_with 3 ss us out 0 → IsRow s
+begins s ss us out e f g = subst IsRow (sym (g ∙ ap (λ (xs : List (ℕ × List Literal)). begun_with 3 xs us out 0) e ∙ ap (λ (ls : List Literal). begun_with 3 row_starts ls out 0) f)) (begun_row out)
 
 pub first_is : (s : PortState) → IsRow s → lits_at s 0 ≡ first
 first_is s k = lits_of_holding s 0 (start_at 0 1 first) k.first

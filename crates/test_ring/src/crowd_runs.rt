@@ -46,7 +46,7 @@ fn run_on_two(alloc: Global, gift: Option<Gift>, quiet: u64, memory: bool) -> Re
     let problem = opposed_clauses(alloc)?;
     let lines = CountedLines::new(problem.formula.clauses().len() as u64, 0);
     let (inner, alone) = begin(alloc, problem, 2, SEED, lines)?;
-    let (mut port, job) = join_crowd(alloc, inner, alone, gift, quiet, memory)?;
+    let (mut port, job) = join_crowd(alloc, inner, alone, gift, quiet, memory, 2)?;
     let (end, counts) = run_ring(alloc, &mut port, &job);
     Ok(Ran {
         end,

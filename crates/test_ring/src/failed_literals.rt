@@ -51,7 +51,7 @@ fn probe_one<L: LineOut + Drop>(
     requires last { (L.told lines).last ≡ length problem.formula.clauses }
     requires unspent { (L.told lines).spent ≡ false }
 {
-    let mut port = open_problem(alloc, problem, lines)?;
+    let mut port = open_problem(alloc, problem, 0, lines)?;
     let start = port.start(alloc)?;
     let answer = probe_over(alloc, &mut port, start.as_slice())?;
     Ok((answer, port.into_lines()))

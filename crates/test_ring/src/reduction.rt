@@ -19,7 +19,7 @@ pub(crate) fn open_row(alloc: Global) -> Result<PlainPort<SinkLines<MemSink<'sta
         return Err("no memory".into());
     };
     let starts = one_start(alloc)?;
-    match PlainPort::new(alloc, 3, starts, Vec::new(alloc), lines) {
+    match PlainPort::new(alloc, 3, starts, Vec::new(alloc), lines, 0) {
         Ok(port) => Ok(port),
         Err(_) => Err("no memory".into()),
     }

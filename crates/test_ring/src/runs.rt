@@ -1,5 +1,5 @@
 // `ring_run` over the port in memory, on small formulas.
-ghost use Rattle.std.specs.Prelude.{◌≡◌, ◌≤◌, false, length};
+ghost use Rattle.std.specs.Prelude.{◌≡◌, false, length};
 
 use crate::beginning::begin;
 use drat_text::{CountedLines, LineOut, SinkLines};
@@ -48,6 +48,21 @@ fn two_clauses(alloc: Global) -> Result<Problem, Fail> {
     problem.with(alloc, &[one.not(), two, three])
 }
 
+/// The eight clauses on three variables, which no assignment makes true.
+fn eight_clauses(alloc: Global) -> Result<Problem, Fail> {
+    let one = Lit::new(1, false);
+    let two = Lit::new(2, false);
+    let three = Lit::new(3, false);
+    let mut problem = Problem::new(alloc, 3);
+    for lit in [one, one.not()] {
+        problem = problem.with(alloc, &[lit, two, three])?;
+        problem = problem.with(alloc, &[lit, two.not(), three])?;
+        problem = problem.with(alloc, &[lit, two, three.not()])?;
+        problem = problem.with(alloc, &[lit, two.not(), three.not()])?;
+    }
+    Ok(problem)
+}
+
 /// Two units that differ in sign.
 fn two_units(alloc: Global) -> Result<Problem, Fail> {
     let one = Lit::new(1, false);
@@ -55,19 +70,18 @@ fn two_units(alloc: Global) -> Result<Problem, Fail> {
     problem.with_unit(alloc, one.not())
 }
 
-/// Runs a ring on a problem.
+/// Runs a ring on a problem, with so many tickets.
 fn run_over<L: LineOut + Drop>(
     alloc: Global,
     problem: Problem,
-    conflicts: u64,
+    limit: u64,
     lines: L,
 ) -> Result<(End, Counts, L), Fail>
-    requires some { 1 ≤ conflicts }
     requires none { (L.told lines).entries ≡ 0 }
     requires last { (L.told lines).last ≡ length problem.formula.clauses }
     requires unspent { (L.told lines).spent ≡ false }
 {
-    let (mut port, job) = begin(alloc, problem, conflicts, SEED, lines)?;
+    let (mut port, job) = begin(alloc, problem, limit, SEED, lines)?;
     let (end, counts) = run_ring(alloc, &mut port, &job);
     Ok((end, counts, port.into_lines()))
 }
@@ -76,17 +90,15 @@ fn run_over<L: LineOut + Drop>(
 pub(crate) fn run_in(
     alloc: Global,
     problem: Problem,
-    conflicts: u64,
+    limit: u64,
     room: usize,
-) -> Result<(End, Counts, MemSink<'static>), Fail>
-    requires { 1 ≤ conflicts }
-{
+) -> Result<(End, Counts, MemSink<'static>), Fail> {
     let sink = MemSink::new(alloc, room, &[])?;
     let clauses = problem.formula.clauses().len() as u64;
     let Ok(lines) = SinkLines::new(alloc, clauses, sink) else {
         return Err(Fail::from("no memory for the lines"));
     };
-    let (end, counts, lines) = run_over(alloc, problem, conflicts, lines)?;
+    let (end, counts, lines) = run_over(alloc, problem, limit, lines)?;
     match lines.finish() {
         (Ok(()), sink) => Ok((end, counts, sink)),
         (Err(_), _) => Err(Fail::from("the sink failed")),
@@ -154,15 +166,14 @@ fn has_model(end: &End, lits: &[Lit], vars: usize) -> bool {
 }
 
 /// Whether a run on a problem comes to this.
-fn comes_to(alloc: Global, problem: Problem, conflicts: u64, wanted: &Wanted) -> Result<bool, Fail>
-    requires { 1 ≤ conflicts }
-{
-    let (end, counts, sink) = run_in(alloc, problem, conflicts, ROOM)?;
+fn comes_to(alloc: Global, problem: Problem, limit: u64, wanted: &Wanted) -> Result<bool, Fail> {
+    let (end, counts, sink) = run_in(alloc, problem, limit, ROOM)?;
     let ended = kind_of(&end) == wanted.kind && has_model(&end, wanted.lits, wanted.vars);
     Ok(ended && counts == wanted.counts && sink.bytes() == wanted.text)
 }
 
-// 2 false makes 1 and its negation true: the lemma is 2. With it the second and the last clause oppose each other.
+// 2 false makes 1 and its negation true: the lemma is 2. With it the second and the last clause oppose each other, and the empty clause
+// needs no ticket.
 #[test]
 fn refutes_four_clauses(rt: HostRuntime) -> Result<(), Fail> {
     let wanted = Wanted {
@@ -172,20 +183,35 @@ fn refutes_four_clauses(rt: HostRuntime) -> Result<(), Fail> {
         lits: &[],
         vars: 0,
     };
-    assert!(rt; comes_to(rt.alloc(), four_clauses(rt.alloc())?, 2, &wanted)?);
+    assert!(rt; comes_to(rt.alloc(), four_clauses(rt.alloc())?, 1, &wanted)?);
+    Ok(())
+}
+
+// 3 and 2 are decided false: the lemma is `2 3`, as in the formula of two clauses. It makes 2 true, which opposes two other clauses, and
+// the one ticket was drawn.
+#[test]
+fn ends_at_the_conflict_without_a_ticket(rt: HostRuntime) -> Result<(), Fail> {
+    let wanted = Wanted {
+        kind: Kind::Spent,
+        counts: counted(1, 1),
+        text: b"2 3 0\n",
+        lits: &[],
+        vars: 0,
+    };
+    assert!(rt; comes_to(rt.alloc(), eight_clauses(rt.alloc())?, 1, &wanted)?);
     Ok(())
 }
 
 #[test]
-fn stops_at_its_limit(rt: HostRuntime) -> Result<(), Fail> {
+fn learns_nothing_without_tickets(rt: HostRuntime) -> Result<(), Fail> {
     let wanted = Wanted {
         kind: Kind::Spent,
-        counts: counted(1, 0),
-        text: b"2 0\n",
+        counts: counted(0, 0),
+        text: b"",
         lits: &[],
         vars: 0,
     };
-    assert!(rt; comes_to(rt.alloc(), four_clauses(rt.alloc())?, 1, &wanted)?);
+    assert!(rt; comes_to(rt.alloc(), four_clauses(rt.alloc())?, 0, &wanted)?);
     Ok(())
 }
 
@@ -230,7 +256,7 @@ fn learns_a_clause(rt: HostRuntime) -> Result<(), Fail> {
         lits: &[Lit::new(2, false), Lit::new(3, true)],
         vars: 3,
     };
-    assert!(rt; comes_to(rt.alloc(), two_clauses(rt.alloc())?, 2, &wanted)?);
+    assert!(rt; comes_to(rt.alloc(), two_clauses(rt.alloc())?, 1, &wanted)?);
     Ok(())
 }
 

@@ -13,7 +13,7 @@ fn a_copy_is_made_shorter(rt: HostRuntime) -> Result<(), Fail> {
         return Err("no memory".into());
     };
     let starts = two_starts(alloc)?;
-    let Ok(mut port) = PlainPort::new(alloc, 3, starts, Vec::new(alloc), lines) else {
+    let Ok(mut port) = PlainPort::new(alloc, 3, starts, Vec::new(alloc), lines, 0) else {
         return Err("no memory".into());
     };
     let Vivified::Shorter(_) = vivify_copy(alloc, &mut port)? else {

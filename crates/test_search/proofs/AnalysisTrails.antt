@@ -77,7 +77,7 @@ reasoned_by n a h held unit = record { caused = by }
       reason = record { address = 1 };
       lits = first.lits;
       reason_is = refl;
-      held_is = ap (option_map (λ (k : Holding). k.lits)) (held_first 0);
+      held_is = ap (option_map (λ (k : Holding). k.lits)) (held_first 0 false);
       unit = unit_first n a;
     })
     by (suc (suc zero)) lt = inr (inr (record { none = refl; above = omega arith; first = lower }))
@@ -96,7 +96,7 @@ reasoned_by n a h held unit = record { caused = by }
     by (suc (suc (suc (suc p)))) lt = absurd (omega arith)
 
 pub reasoned_second : IsReasoned (clause_at sample_state) sample_state.seen (sample_steps false 2)
-reasoned_second = reasoned_by false 2 second (held_second 0) unit_second
+reasoned_second = reasoned_by false 2 second (held_second 0 false) unit_second
 
 pub reasoned_third : IsReasoned (clause_at sample_state) sample_state.seen (sample_steps true 3)
-reasoned_third = reasoned_by true 3 third (held_third 0) unit_third
+reasoned_third = reasoned_by true 3 third (held_third 0 false) unit_third

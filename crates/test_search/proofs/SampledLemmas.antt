@@ -1,5 +1,5 @@
 -- What calls keep of watches and a trail at level 0 over the small port.
-use Rattle.std.proofs.Common.{◌≡◌, ◌∙◌, ◌+◌, ◌==◌, ℕ, zero, suc, not, true, List, [], ◌∷◌, ◌++◌, IsSome, None, sym, refl, ap, subst, add-one, inl, inr}
+use Rattle.std.proofs.Common.{◌≡◌, ◌∙◌, ◌+◌, ◌==◌, ℕ, zero, suc, not, true, false, List, [], ◌∷◌, ◌++◌, IsSome, None, sym, refl, ap, subst, add-one, inl, inr}
 use Rattle.std.proofs.lemmas.List.{append-nil}
 use Rattle.std.proofs.lemmas.List.Elements.{filter-append}
 use Rattle.sat_words.specs.Literal.{Literal}
@@ -22,9 +22,9 @@ use Rattle.test_search.specs.Sampled.{place_of, cref_of, left_by, IsSampled}
 use Rattle.test_search.proofs.EmptyTrails.{empty_trail, fresh, reasons_with, reasons_of_none}
 
 held_there : (c : SampleClause) → IsSome (held_at sample_state (place_of c))
-held_there First = rw (held_first 0) refl
-held_there Second = rw (held_second 0) refl
-held_there Third = rw (held_third 0) refl
+held_there First = rw (held_first 0 false) refl
+held_there Second = rw (held_second 0 false) refl
+held_there Third = rw (held_third 0 false) refl
 
 pub held_at_place : (c : SampleClause) (x : Cref) → x ≡ cref_of c → IsSome (held_at sample_state x.address)
 held_at_place c x e = subst (λ (y : Cref). IsSome (held_at sample_state y.address)) (sym e) (held_there c)

@@ -34,7 +34,11 @@ fn is_learned(conclusion: Conclusion, lits: &[Lit]) -> bool {
 fn learns_from_the_third_clause(rt: HostRuntime) -> Result<(), Fail> {
     let trail = trail_to_conflict(rt.alloc(), false, 2)?;
     let mut analysis = Analysis::new(rt.alloc(), 5)?;
-    let mut port = SamplePort { stage: 0, loads: 0 };
+    let mut port = SamplePort {
+        stage: 0,
+        drawn: false,
+        loads: 0,
+    };
     let conclusion = analysis.analyze(&mut port, &trail, Cref { address: 3 });
     assert!(rt; is_learned(conclusion, analysis.lits()));
     Ok(())
@@ -45,7 +49,11 @@ fn learns_from_the_third_clause(rt: HostRuntime) -> Result<(), Fail> {
 fn learns_from_the_second_clause(rt: HostRuntime) -> Result<(), Fail> {
     let trail = trail_to_conflict(rt.alloc(), true, 3)?;
     let mut analysis = Analysis::new(rt.alloc(), 5)?;
-    let mut port = SamplePort { stage: 0, loads: 0 };
+    let mut port = SamplePort {
+        stage: 0,
+        drawn: false,
+        loads: 0,
+    };
     let conclusion = analysis.analyze(&mut port, &trail, Cref { address: 2 });
     assert!(rt; is_learned(conclusion, analysis.lits()));
     Ok(())

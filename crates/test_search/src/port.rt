@@ -21,7 +21,7 @@ fn write_unit<L: LineOut + Drop>(
     let one = Lit::new(1, false);
     let starts = Starts::new(alloc);
     let units = Vec::from_slice(alloc, &[one])?;
-    let Ok(mut port) = PlainPort::new(alloc, 2, starts, units, lines) else {
+    let Ok(mut port) = PlainPort::new(alloc, 2, starts, units, lines, 0) else {
         return Err("no memory".into());
     };
     let Some(unit) = port.next_unit() else {

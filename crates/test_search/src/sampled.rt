@@ -65,7 +65,11 @@ impl Sampled {
         ensures attached { OnOk result (attached self.new.watches ≡ attached self.old.watches ++ cref_of clause ∷ []) }
         ensures trail { self.new.trail ≡ self.old.trail }
     {
-        let mut port = SamplePort { stage: 0, loads: 0 };
+        let mut port = SamplePort {
+            stage: 0,
+            drawn: false,
+            loads: 0,
+        };
         self.watches
             .attach(&mut port, &self.trail, address_of(clause))?;
         Ok(())
@@ -92,7 +96,11 @@ impl Sampled {
         ensures attached { attached self.new.watches ≡ without (attached self.old.watches) (cref_of clause).address }
         ensures trail { self.new.trail ≡ self.old.trail }
     {
-        let mut port = SamplePort { stage: 0, loads: 0 };
+        let mut port = SamplePort {
+            stage: 0,
+            drawn: false,
+            loads: 0,
+        };
         self.watches.detach(&mut port, address_of(clause));
     }
 
@@ -131,7 +139,11 @@ impl Sampled {
         ensures grown { HasGrown self.old.trail self.new.trail }
         ensures propagated { IfOk result (λ told. IsPropagated self.new.watches (lits_at sample_state) self.new.trail told.0) }
     {
-        let mut port = SamplePort { stage: 0, loads: 0 };
+        let mut port = SamplePort {
+            stage: 0,
+            drawn: false,
+            loads: 0,
+        };
         let outcome = self.watches.propagate(&mut port, &mut self.trail)?;
         Ok((outcome, port.loads))
     }

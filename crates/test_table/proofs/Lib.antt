@@ -1,3 +1,4 @@
+mod Drawing
 mod Keeping
 mod Summing
 mod Trading

@@ -20,8 +20,8 @@ use Rattle.test_tables.specs.Samples.{IsFirst}
 use Rattle.test_tables.specs.Books.{account_of, IsAnyLog}
 use Rattle.test_tables.specs.declared.book.SampleBook.{SampleBook}
 
-pub may_begin : (f : FormulaData) (ss : List (ℕ × List Literal)) (us : List Literal) (l : Layout) → IsProblem f ss us → l.vars ≡ f.vars → 1 ≤ l.rings → l.rings ≤ 16 → l.vars ≤ 2 ^ 30 → l.words ≤ 2 ^ 31 → 1 ≤ l.depth → l.depth ≤ 16 → MayBegin f.clauses l [] ss us
-may_begin f ss us l p vars some few_rings few_vars few_words some_slot few_slots =
+pub may_begin : (f : FormulaData) (ss : List (ℕ × List Literal)) (us : List Literal) (l : Layout) → IsProblem f ss us → l.vars ≡ f.vars → 1 ≤ l.rings → l.rings ≤ 16 → l.vars ≤ 2 ^ 30 → l.words ≤ 2 ^ 31 → 1 ≤ l.depth → l.depth ≤ 16 → l.conflicts ≤ 2 ^ 63 → MayBegin f.clauses l [] ss us
+may_begin f ss us l p vars some few_rings few_vars few_words some_slot few_slots limited =
     let on : (k : Literal) → IsOn f.vars k → (1 ≤ k.var) × (k.var ≤ l.vars) = λ k o. (o.low, subst (λ (n : ℕ). k.var ≤ n) (sym vars) o.high) in
     record {
       some_ring = some;
@@ -36,6 +36,7 @@ may_begin f ss us l p vars some few_rings few_vars few_words some_slot few_slots
       few_entries = omega arith;
       starts = λ i s lt j k lt2. on _ (p.starts_on i s lt j k lt2);
       units = λ i k lt. on _ (p.units_on i k lt);
+      limited = limited;
     }
 
 -- the first pass of a new table

@@ -6,5 +6,5 @@ mod making;
 mod rings;
 
 pub use book::SampleBook;
-pub use making::{open, open_with, refusal};
+pub use making::{open, open_with, open_with_tickets, refusal};
 pub use rings::{Ring, begin, gather, give_up, start_cell};

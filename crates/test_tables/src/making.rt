@@ -47,13 +47,14 @@ fn try_over<B: Ledger + Drop>(
     rings: u32,
     words: u64,
     depth: u32,
+    conflicts: u64,
     book: B,
 ) -> Result<Made<B>, Fail>
     requires problem { IsProblem formula.now start.now units.now }
     requires book { (l : Layout) → HasLog B.account B.stands book (B.origin book) l formula.now.clauses [] }
     requires whole { (B.account book).broken ≡ false }
     ensures first { IfOk result (λ m. IfOk m (λ m. IsFirst m.0 m.1 0 × (m.1.me.0.parts ≡ []))) }
-    ensures layout { IfOk result (λ m. IfOk m (λ m. m.0.layout ≡ record { rings = rings; vars = formula.now.vars; words = words; depth = depth })) }
+    ensures layout { IfOk result (λ m. IfOk m (λ m. m.0.layout ≡ record { rings = rings; vars = formula.now.vars; words = words; depth = depth; conflicts = conflicts })) }
     ensures opening { IfOk result (λ m. IfOk m (λ m. m.1.me.0.opening ≡ begun_with formula.now.clauses m.0.layout [] start.now units.now)) }
     ensures cells { IfOk result (λ m. IfOk m (λ m. m.2.items ≡ addresses m.1.me.0.opening.starts)) }
 {
@@ -64,11 +65,15 @@ fn try_over<B: Ledger + Drop>(
     if depth == 0 || depth > 16 {
         return Err(Fail::from("no slots"));
     }
+    if conflicts > 1 << 63 {
+        return Err(Fail::from("too many tickets"));
+    }
     let layout = Layout {
         rings,
         vars,
         words,
         depth,
+        conflicts,
     };
     match make_over(alloc, formula, layout, start, units, book) {
         Ok(made) => Ok(Ok(made)),
@@ -77,19 +82,20 @@ fn try_over<B: Ledger + Drop>(
 }
 
 /// A table for this many rings over such a book, with its first pass. The depth is how many slots there are for each two
-/// rings and class. No line stands in the book yet.
+/// rings and class; the conflicts are how many clauses the rings may learn together. No line stands in the book yet.
 pub fn open_with<B: Ledger + Drop>(
     alloc: Global,
     problem: &Problem,
     rings: u32,
     words: u64,
     depth: u32,
+    conflicts: u64,
     book: B,
 ) -> Result<(Shared<B>, Pass<B>, Vec<Cref>), Fail>
     requires book { (l : Layout) → HasLog B.account B.stands book (B.origin book) l problem.now.formula.clauses [] }
     requires whole { (B.account book).broken ≡ false }
     ensures first { IfOk result (λ m. IsFirst m.0 m.1 0 × (m.1.me.0.parts ≡ [])) }
-    ensures layout { IfOk result (λ m. m.0.layout ≡ record { rings = rings; vars = problem.now.formula.vars; words = words; depth = depth }) }
+    ensures layout { IfOk result (λ m. m.0.layout ≡ record { rings = rings; vars = problem.now.formula.vars; words = words; depth = depth; conflicts = conflicts }) }
     ensures opening { IfOk result (λ m. m.1.me.0.opening ≡ begun_with problem.now.formula.clauses m.0.layout [] problem.now.start.items problem.now.units.items) }
     ensures cells { IfOk result (λ m. m.2.items ≡ addresses m.1.me.0.opening.starts) }
 {
@@ -103,6 +109,7 @@ pub fn open_with<B: Ledger + Drop>(
         rings,
         words,
         depth,
+        conflicts,
         book,
     )? {
         Ok(made) => Ok(made),
@@ -121,7 +128,7 @@ fn new_book(alloc: Global, formula: &Formula) -> Result<SampleBook, Fail>
     })
 }
 
-/// A table for this many rings, with its first pass.
+/// A table for this many rings, with its first pass, at which nothing can be learned.
 pub fn open(
     alloc: Global,
     problem: &Problem,
@@ -133,8 +140,24 @@ pub fn open(
     ensures depth { IfOk result (λ m. m.0.layout.depth ≡ depth) }
     ensures cells { IfOk result (λ m. m.2.items ≡ addresses m.1.me.0.opening.starts) }
 {
+    open_with_tickets(alloc, problem, rings, words, depth, 0)
+}
+
+/// A table for this many rings, with its first pass, and with so many tickets.
+pub fn open_with_tickets(
+    alloc: Global,
+    problem: &Problem,
+    rings: u32,
+    words: u64,
+    depth: u32,
+    conflicts: u64,
+) -> Result<(Shared<SampleBook>, Pass<SampleBook>, Vec<Cref>), Fail>
+    ensures first { IfOk result (λ m. IsFirst m.0 m.1 0 × (m.1.me.0.parts ≡ []) × (m.1.me.0.opening.rings ≡ rings)) }
+    ensures depth { IfOk result (λ m. m.0.layout.depth ≡ depth) }
+    ensures cells { IfOk result (λ m. m.2.items ≡ addresses m.1.me.0.opening.starts) }
+{
     let book = new_book(alloc, &problem.formula)?;
-    open_with(alloc, problem, rings, words, depth, book)
+    open_with(alloc, problem, rings, words, depth, conflicts, book)
 }
 
 /// Why no table is made with one slot for each two rings and class, and the last number of the book that comes back.
@@ -147,7 +170,17 @@ pub fn refusal(
     let start = problem.start.as_slice();
     let units = problem.units.as_slice();
     let book = new_book(alloc, &problem.formula)?;
-    match try_over(alloc, &problem.formula, start, units, rings, words, 1, book)? {
+    match try_over(
+        alloc,
+        &problem.formula,
+        start,
+        units,
+        rings,
+        words,
+        1,
+        0,
+        book,
+    )? {
         Ok(_) => Err(Fail::from("a table was made")),
         Err(stop) => Ok((stop.why, stop.book.last)),
     }

@@ -1,6 +1,6 @@
 -- What a ring learned since it last reduced, in the journal that it took.
 use Rattle.std.proofs.Common.{◌≡◌, ◌∙◌, true, List, ◌++◌, map, sym, ap, Some}
-use Rattle.std.specs.Prelude.{not}
+use Rattle.std.specs.Prelude.{not, ◌&&◌}
 use Rattle.std.specs.List.{list_any}
 use lib.ListN.{get_elem?}
 use Rattle.sat_words.specs.Literal.{Literal}
@@ -28,6 +28,6 @@ recent_taken v s w =
     let J : journal_in (only v).turn ≡ s.core.journal = ap journal_in w.1.1 ∙ turn_is s.core (ring_of (only v)) w.1.0 is in
     ap (recent (ring_of (only v))) J ∙ recent_own s.core (ring_of (only v)) (left_sound s.core.opening s.core s.left) part.ring ∙ ap (λ (p : Part). recent (ring_of (only v)) (map (λ (w : Placed). w.entry) p.wrote)) (sym part.part)
 
--- so a clause that is new by the ring's own entries may be learned
-pub may_learn_taken : (v : View) → Seen v → IsWriting v → (lits : List Literal) → fresh (start_clauses (opening_of v.opening)) (map (λ (w : Placed). w.entry) (only v).core.wrote) (only v).core.ring lits ≡ true → may_learn v.opening (journal_in (only v).turn) (only v).core (only v).core.ring lits ≡ true
-may_learn_taken v s w lits new = ap (λ (cs : List (List Literal)). not (list_any (includes lits) (start_clauses (opening_of v.opening) ++ cs))) (recent_taken v s w) ∙ new
+-- so with a ticket a clause that is new by the ring's own entries may be learned
+pub may_learn_taken : (v : View) → Seen v → IsWriting v → (lits : List Literal) → fresh (start_clauses (opening_of v.opening)) (map (λ (w : Placed). w.entry) (only v).core.wrote) (only v).core.ring lits ≡ true → (only v).core.ticket ≡ true → may_learn v.opening (journal_in (only v).turn) (only v).core (only v).core.ring lits ≡ true
+may_learn_taken v s w lits new ticket = (λ i. ticket i && not (list_any (includes lits) (start_clauses (opening_of v.opening) ++ recent_taken v s w i))) ∙ new

@@ -1,5 +1,6 @@
 mod Burying
 mod Counting
+mod Drawing
 mod Giving
 pub mod Learning
 mod Listing

@@ -1,6 +1,6 @@
 -- What rings did in their turns, and what they were known.
 use Rattle.io_edge.specs.declared.edge.Sink.{Ghosts}
-use Rattle.std.specs.Prelude.{◌≡◌, ◌≢◌, ◌⊎◌, ◌≤◌, ◌<◌, ◌+◌, ◌-◌, ◌^◌, ℕ, List, [], ◌∷◌, ◌++◌, length, map, min, sum, nat_lt, Some}
+use Rattle.std.specs.Prelude.{◌≡◌, ◌≢◌, ◌⊎◌, ◌≤◌, ◌<◌, ◌+◌, ◌-◌, ◌^◌, ℕ, true, List, [], ◌∷◌, ◌++◌, length, map, min, sum, nat_lt, Some}
 use Rattle.sat_words.specs.Literal.{Literal}
 use Rattle.rup_model.specs.Basics.{one_if}
 use Rattle.rup_model.specs.declared.journal.Kind.TheVariants.{UnitLine}
@@ -21,6 +21,14 @@ GaveTurn v = (n : ℕ) × (v.last ≡ Some (record { word = 0; op = Store n; fou
 -- the turn was taken and given back, and nothing was written in it
 abbrev pub WroteNone : View → View → Type 0
 WroteNone v w = ((only w).core ≡ (only v).core) × GaveTurn w
+
+-- Drawing
+
+-- the ring drew a ticket
+pub record DrewTicket (v w : View) : Type 0 where
+  pub found : ℕ
+  pub left : found ≤ v.opening.limit
+  pub core_is : (only w).core ≡ record (only v).core { ticket = true; found = found }
 
 -- Deleting
 

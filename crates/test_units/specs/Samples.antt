@@ -1,5 +1,5 @@
 -- What the tests start from, and what their rings know.
-use Rattle.std.specs.Prelude.{◌≡◌, ◌≤◌, ℕ, true, false, List, [], ◌∷◌, map, Option}
+use Rattle.std.specs.Prelude.{◌≡◌, ◌≤◌, ℕ, Bool, true, false, List, [], ◌∷◌, map, Option}
 use Rattle.sat_words.specs.Literal.{Literal}
 use Rattle.rup_model.specs.Journal.{fresh}
 use Rattle.rup_model.specs.Opening.{start_clauses}
@@ -38,10 +38,11 @@ pub record IsWriter {B : Type 0} (t : Shared B) (p : Seat (Option B) View) (ring
   pub follows_is : follows (only p.me.0).core (lit ∷ []) ≡ true
   pub on : InVars t.layout (lit ∷ [])
 
--- it may learn the clause, which follows from what it knows, contains no start clause and none that it learned
+-- it may learn the clause, which follows from what it knows, contains no start clause and none that it learned; it has a ticket
 pub record IsLearner {B : Type 0} (t : Shared B) (p : Seat (Option B) View) (ring : ℕ) (lits : List Literal) : Type 0 where
   pub is_ring : IsRing t p ring
   pub follows_is : follows (only p.me.0).core lits ≡ true
+  pub ticket_is : (only p.me.0).core.ticket ≡ true
   pub new_is : fresh (start_clauses (opening_of p.me.0.opening)) (map (λ (w : Placed). w.entry) (only p.me.0).core.wrote) ring lits ≡ true
   pub on : InVars t.layout lits
 
@@ -63,16 +64,23 @@ pub record IsBeginner {B : Type 0} (t : Shared B) (p : Seat (Option B) View) (ri
 abbrev pub pair : List Literal
 pair = plus 1 ∷ plus 2 ∷ []
 
--- it learned the pair, under this number, in an entry at this place, and holds its cell
-abbrev pub pair_part : CoreOpening → ℕ → ℕ → ℕ → ℕ → Part
-pair_part o ring a n i = opened_part (record { address = a; number = n; lits = pair }) (made_part (record { address = a; number = n; lits = pair }) i (Add (record { ring = ring; number = n; lits = pair; kind = Learn })) (granted_part o (blank ring)))
+-- it has its grant, and has drawn: whether a ticket is in hand, and what the draw found
+abbrev pub drawn_part : CoreOpening → ℕ → Bool → ℕ → Part
+drawn_part o ring ticket found = record (granted_part o (blank ring)) { ticket = ticket; found = found }
 
--- that is all that it did
-pub record IsPairHolder {B : Type 0} (t : Shared B) (p : Seat (Option B) View) (ring a : ℕ) : Type 0 where
+-- then it learned the pair, under this number, in an entry at this place, and holds its cell; whether a ticket is in hand, and what
+-- the last draw found
+abbrev pub pair_part : CoreOpening → ℕ → ℕ → ℕ → ℕ → Bool → ℕ → Part
+pair_part o ring a n i ticket found = opened_part (record { address = a; number = n; lits = pair }) (made_part (record { address = a; number = n; lits = pair }) i (Add (record { ring = ring; number = n; lits = pair; kind = Learn })) (drawn_part o ring ticket found))
+
+-- that is all that it did, but for a draw more if it has a ticket in hand
+pub record IsPairHolder {B : Type 0} (t : Shared B) (p : Seat (Option B) View) (ring a : ℕ) (ticket : Bool) : Type 0 where
   pub is_ring : IsRing t p ring
   pub number : ℕ
   pub place : ℕ
-  pub core_is : (only p.me.0).core ≡ pair_part p.me.0.opening ring a number place
+  pub found : ℕ
+  pub left : found ≤ p.me.0.opening.limit
+  pub core_is : (only p.me.0).core ≡ pair_part p.me.0.opening ring a number place ticket found
   pub from : ℕ
   pub starts_are : p.me.0.opening.starts ≡ starts_at from three
   pub vars : 2 ≤ t.layout.vars

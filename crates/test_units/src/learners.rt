@@ -1,5 +1,5 @@
 //! Rings that learn, put what they learned into a cell, delete it, and list a unit.
-ghost use Rattle.std.specs.Prelude.{◌≡◌, ◌≢◌, ◌≤◌, ◌<◌, ◌+◌, ℕ, ◌∷◌, [], true, map, IfSome, IfNone, MatchBool, MatchOption, length};
+ghost use Rattle.std.specs.Prelude.{◌≡◌, ◌≢◌, ◌≤◌, ◌<◌, ◌+◌, ℕ, ◌∷◌, [], true, false, map, IfSome, IfNone, MatchBool, MatchOption, length};
 ghost use Rattle.std.specs.List.{list_any};
 ghost use Rattle.sat_words.specs.Clause.{same_set};
 ghost use Rattle.rup_model.specs.Journal.{added};
@@ -13,8 +13,10 @@ ghost use Rattle.rup_model.specs.declared.journal.Kind.TheVariants.{Learn};
 ghost use Rattle.rup_model.specs.declared.journal.Entry.TheVariants.{Add};
 ghost use Rattle.rup_model.specs.Opening.{IsLong};
 ghost use Rattle.share_core.specs.Events.{made_part, opened_part};
+ghost use Rattle.share_core.specs.Learning.{after_learn};
+ghost use Rattle.share_rule.specs.Tickets.{MayDraw};
 ghost use Rattle.share_rule.specs.Views.{only};
-ghost use Rattle.test_units.specs.Doings.{WroteNone, Buried, NotBuried, ListedOne, ReadOne};
+ghost use Rattle.test_units.specs.Doings.{WroteNone, DrewTicket, Buried, NotBuried, ListedOne, ReadOne};
 ghost use Rattle.test_units.specs.Samples.{IsBeginner, IsLearner, IsBuilder, IsPairHolder, three};
 
 use clause_cell::{head_word, lit_word};
@@ -27,7 +29,22 @@ use share_rule::{Pass, Shared};
 use std::alloc::Global;
 use std::sync::Wait;
 use test_tables::{Ring, begin};
+use ticket_word::{Drawn, draw};
 use unit_share::{next_unit, publish};
+
+/// Draws a ticket for the ring, with which it may learn a clause. False if none is left.
+pub fn draw_ticket<S: Sink>(table: &Shared<Book<S>>, ring: &mut Ring<Book<S>>) -> bool
+    requires ring { IsAlone table.now ring.old.pass ring.old.ring }
+    requires may { MayDraw ring.old.pass.me.0 }
+    ensures ring { IsAlone table.now ring.new.pass ring.new.ring }
+    ensures drew { result ≡ true → DrewTicket ring.old.pass.me.0 ring.new.pass.me.0 }
+    ensures same { (ring.new.ring ≡ ring.old.ring) × (ring.new.pass.me.0.opening ≡ ring.old.pass.me.0.opening) }
+{
+    match draw(table, &mut ring.pass) {
+        Drawn::Ticket => true,
+        Drawn::Gone => false,
+    }
+}
 
 /// Takes the turn, learns the clause, and gives the turn back: its cell and its number.
 #[tactic(auto, using(crate::proofs::Learning::may_learn_taken))]
@@ -43,7 +60,7 @@ pub fn learn<H: Wait, S: Sink>(
     requires clear { (only ring.old.pass.me.0).core.making ≡ [] }
     ensures ring { IsAlone table.now ring.new.pass ring.new.ring }
     ensures builder { IfSome result (λ x. IsBuilder table.now ring.new.pass ring.new.ring x.0.address x.1 lits.now) }
-    ensures part { IfSome result (λ x. (i : ℕ) × ((only ring.new.pass.me.0).core ≡ made_part (record { address = x.0.address; number = x.1; lits = lits.now }) i (Add (record { ring = ring.old.ring; number = x.1; lits = lits.now; kind = Learn })) (only ring.old.pass.me.0).core)) }
+    ensures part { IfSome result (λ x. (i : ℕ) × ((only ring.new.pass.me.0).core ≡ made_part (record { address = x.0.address; number = x.1; lits = lits.now }) i (Add (record { ring = ring.old.ring; number = x.1; lits = lits.now; kind = Learn })) (after_learn Learn (only ring.old.pass.me.0).core))) }
     ensures none { IfNone result (WroteNone ring.old.pass.me.0 ring.new.pass.me.0) }
     ensures same { (ring.new.ring ≡ ring.old.ring) × (ring.new.pass.me.0.opening ≡ ring.old.pass.me.0.opening) }
 {
@@ -148,7 +165,7 @@ pub fn learn_unit<H: Wait, S: Sink>(
 ) -> Option<u64>
     requires { IsLearner table.now ring.old.pass ring.old.ring (lit ∷ []) }
     ensures ring { IsAlone table.now ring.new.pass ring.new.ring }
-    ensures part { IfSome result (λ n. (i : ℕ) × ((only ring.new.pass.me.0).core ≡ wrote_part i (Add (record { ring = ring.old.ring; number = n; lits = lit ∷ []; kind = Learn })) (only ring.old.pass.me.0).core)) }
+    ensures part { IfSome result (λ n. (i : ℕ) × ((only ring.new.pass.me.0).core ≡ wrote_part i (Add (record { ring = ring.old.ring; number = n; lits = lit ∷ []; kind = Learn })) (after_learn Learn (only ring.old.pass.me.0).core))) }
     ensures none { IfNone result (WroteNone ring.old.pass.me.0 ring.new.pass.me.0) }
     ensures same { (ring.new.ring ≡ ring.old.ring) × (ring.new.pass.me.0.opening ≡ ring.old.pass.me.0.opening) }
 {
@@ -195,7 +212,7 @@ pub fn list_first<H: Wait, S: Sink>(
     }
 }
 
-/// Learns the clause of 1 and 2, and puts it into a cell, which the ring then holds.
+/// Draws a ticket, learns the clause of 1 and 2, and puts it into a cell, which the ring then holds.
 #[tactic(auto, using(crate::proofs::Playing::may_learn_pair, crate::proofs::Playing::long_pair))]
 pub fn learn_pair<H: Wait, S: Sink>(
     rt: &H,
@@ -205,12 +222,15 @@ pub fn learn_pair<H: Wait, S: Sink>(
 ) -> Option<Cref>
     requires { IsBeginner table.now ring.old.pass ring.old.ring }
     ensures ring { IsAlone table.now ring.new.pass ring.new.ring }
-    ensures holder { IfSome result (λ c. IsPairHolder table.now ring.new.pass ring.new.ring c.address) }
+    ensures holder { IfSome result (λ c. IsPairHolder table.now ring.new.pass ring.new.ring c.address false) }
     ensures same { ring.new.ring ≡ ring.old.ring }
 {
     let first = Lit::new(1, false);
     let second = Lit::new(2, false);
     let pair = [first, second];
+    if !draw_ticket(table, ring) {
+        return None;
+    }
     let (cell, number) = learn(rt, alloc, table, ring, pair.as_slice())?;
     build(table, ring, cell, number, &pair);
     Some(cell)

@@ -6,7 +6,8 @@ mod learners;
 mod writers;
 
 pub use learners::{
-    begin_over_three, build, give_up_and_bury, learn, learn_pair, learn_unit, list_first,
+    begin_over_three, build, draw_ticket, give_up_and_bury, learn, learn_pair, learn_unit,
+    list_first,
 };
 pub use writers::{Writer, begin_writers, gather_writers, make_three, new_book, write_all};
 

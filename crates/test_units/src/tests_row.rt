@@ -3,7 +3,7 @@ ghost use Rattle.std.specs.Prelude.{◌≡◌};
 ghost use Rattle.test_tables.specs.Samples.{IsRing as IsAlone};
 ghost use Rattle.test_units.specs.Samples.{IsBeginner};
 
-use crate::learners::{give_up_and_bury, learn_pair, learn_unit, list_first};
+use crate::learners::{draw_ticket, give_up_and_bury, learn_pair, learn_unit, list_first};
 use io_edge::Sink;
 use log_book::Book;
 use sat_words::Lit;
@@ -63,7 +63,7 @@ fn play_zero<H: Wait, S: Sink>(
 }
 
 /// Learns the same clause, later the unit 2, and lists it in its next turn. Tells how many steps were done.
-#[tactic(auto, using(crate::proofs::Playing::may_learn_unit, crate::proofs::Playing::holds_pair, crate::proofs::Playing::unit_told, crate::proofs::Playing::two_on))]
+#[tactic(auto, using(crate::proofs::Playing::holder_draws, crate::proofs::Playing::holder_drew, crate::proofs::Playing::may_learn_unit, crate::proofs::Playing::holds_pair, crate::proofs::Playing::unit_told, crate::proofs::Playing::two_on))]
 fn play_one<H: Wait, S: Sink>(
     rt: &H,
     alloc: Global,
@@ -85,6 +85,9 @@ fn play_one<H: Wait, S: Sink>(
     hand.store(2, Ordering::SeqCst);
     if !wait_for(rt, hand, 3) {
         return 2;
+    }
+    if !draw_ticket(table, ring) {
+        return 3;
     }
     let Some(_) = learn_unit(rt, alloc, table, ring, two) else {
         return 3;

@@ -30,7 +30,7 @@ fn relay(
     let lines = rings as u64 * times;
     let sink = MemSink::new(rt.alloc(), 4 * lines as usize, &[])?;
     let book = new_book(rt.alloc(), &problem.formula, sink, false)?;
-    let (table, mut first, cells) = open_with(rt.alloc(), &problem, rings, 64, 1, book)?;
+    let (table, mut first, cells) = open_with(rt.alloc(), &problem, rings, 64, 1, 0, book)?;
     let cell = start_cell(&first, cells.as_slice(), 0)?;
     let mut writers = begin_writers(rt.alloc(), &table, &mut first, cell, rings)?;
     write_all(rt, rt.alloc(), &table, writers.as_mut_slice(), times);
@@ -68,13 +68,13 @@ fn one_ring_takes_turns(rt: HostRuntime) -> Result<(), Fail> {
 }
 
 /// Two rings on threads learn the same clause, and one of them deletes its copy. Then the other learns a unit and lists it
-/// in its next turn, and the first reads it.
+/// in its next turn, and the first reads it. There are as many tickets as they learn.
 #[test]
 fn two_rings_hand_over(rt: HostRuntime) -> Result<(), Fail> {
     let problem = make_three(rt.alloc())?;
     let sink = MemSink::new(rt.alloc(), 64, &[])?;
     let book = new_book(rt.alloc(), &problem.formula, sink, true)?;
-    let (table, mut first, cells) = open_with(rt.alloc(), &problem, 2, 64, 1, book)?;
+    let (table, mut first, cells) = open_with(rt.alloc(), &problem, 2, 64, 1, 3, book)?;
     let cell = start_cell(&first, cells.as_slice(), 0)?;
     let zero = begin_over_three(&table, &mut first, 0, cell);
     let one = begin_over_three(&table, &mut first, 1, cell);
@@ -99,7 +99,7 @@ fn two_rings_wake_each_other(rt: HostRuntime) -> Result<(), Fail> {
     let problem = make_three(rt.alloc())?;
     let sink = MemSink::new(rt.alloc(), 64, &[])?;
     let book = new_book(rt.alloc(), &problem.formula, sink, false)?;
-    let (table, mut first, cells) = open_with(rt.alloc(), &problem, 2, 64, 1, book)?;
+    let (table, mut first, cells) = open_with(rt.alloc(), &problem, 2, 64, 1, 0, book)?;
     let cell = start_cell(&first, cells.as_slice(), 0)?;
     let zero = begin_over_three(&table, &mut first, 0, cell);
     let one = begin_over_three(&table, &mut first, 1, cell);

@@ -1,12 +1,14 @@
 -- What the rings counted, and the lists of the tally.
-use Rattle.std.proofs.Common.{◌≡◌, ◌∙◌, ◌⊎◌, ◌≤◌, ◌<◌, ◌+◌, ◌==◌, ◌&&◌, ℕ, zero, suc, Bool, true, false, cond, List, [], ◌∷◌, ◌++◌, length, map, take, drop, replicate, refl, sym, ap, subst, inl, inr, arith}
+use Rattle.std.proofs.Common.{◌≡◌, ◌∙◌, ◌⊎◌, ◌≤◌, ◌<◌, ◌+◌, ◌==◌, ◌&&◌, ℕ, zero, suc, Bool, true, false, cond, List, [], ◌∷◌, ◌++◌, length, map, take, drop, sum, replicate, refl, sym, ap, subst, inl, inr, arith}
 use Rattle.std.specs.Prelude.{slice_index_or, slice_set, Option}
 use Rattle.std.specs.List.{filter}
 use Rattle.std.proofs.Math.Seq.{drop-length}
 use Rattle.std.proofs.lemmas.Bool.{true≢false}
 use Rattle.std.proofs.lemmas.List.{append-nil, length-map, length-replicate, length-take-le, map_more, get_or-map, get_or-replicate}
-use Rattle.std.proofs.lemmas.List.Sums.{take_while-cons}
+use Rattle.std.proofs.lemmas.List.Sums.{sum_by-cons, take_while-cons}
 use Rattle.sat_words.specs.Literal.{Literal}
+use Rattle.sat_words.specs.FormulaData.{FormulaData}
+use Rattle.rup_model.specs.Basics.{below}
 use Rattle.rup_model.specs.declared.journal.Addition.{Addition}
 use Rattle.rup_model.specs.declared.journal.Entry.{Entry}
 use Rattle.rup_model.specs.declared.journal.Entry.TheVariants.{Add, Del, Reduce}
@@ -14,8 +16,13 @@ use Rattle.rup_model.specs.Journal.{additions, learned, is_learn}
 use Rattle.rup_model.specs.Opening.{is_rulers}
 use Rattle.rup_model.specs.Spent.{ruler_part, rings_part, SpentAll}
 use Rattle.rup_model.proofs.Parts.{rulers_kind}
+use Rattle.rup_model.proofs.Sums.{below_first, below_none}
 use Rattle.ring_run.specs.declared.job.Counts.{Counts}
-use Rattle.portfolio_run.specs.Held.{IsHeld, HasStop, IsTallied, no_counts}
+use Rattle.portfolio_run.specs.declared.answer.Answer.{Answer}
+use Rattle.portfolio_run.specs.declared.answer.Answer.TheVariants.{Sat, Unsat, Unknown, NoHole, ProofFault, Memory}
+use Rattle.portfolio_run.specs.declared.plan.Plan.{Plan as SearchPlan}
+use Rattle.portfolio_run.specs.Held.{IsHeld, HasStop, NeverGone, IsTallied, no_counts}
+use Rattle.portfolio_run.specs.Solved.{IsUnsettled, Holds}
 use Rattle.top_call.specs.Tallied.{no_lack, zero_tally, rings_tally, over, counted, AreLearned}
 
 -- ---- a journal that the ruler alone wrote
@@ -83,13 +90,15 @@ held_each rings slots limit F J counts (inr h) =
       opening = h.opening;
       rings_are = h.rings_are;
       depth_is = h.depth_is;
+      limit_is = h.limit_is;
       formula_is = h.formula_is;
       program = h.program;
       core = h.core;
       left = h.left;
       leaves = h.leaves;
+      within = h.within;
       many = ap length same ∙ h.many;
-      tallied = λ ring d lt. subst (λ (cs : List Counts). IsTallied rings limit ring h.left.events J (slice_index_or cs ring d)) (sym same) (h.tallied ring d lt);
+      tallied = λ ring d lt. subst (λ (cs : List Counts). IsTallied rings ring h.left.events J (slice_index_or cs ring d)) (sym same) (h.tallied ring d lt);
     })
 
 -- with the same stop
@@ -97,6 +106,25 @@ pub stop_each : (rings slots limit : ℕ) (F : List (List Literal)) (J : List En
 unfolding held_each
 stop_each rings slots limit F J counts (inl h) kind stop = stop
 stop_each rings slots limit F J counts (inr h) kind stop = stop
+
+-- and as much left to settle
+unsettled_each : (rings slots limit : ℕ) (F : List (List Literal)) (J : List Entry) (counts : List Counts) (held : IsHeld rings slots limit F J counts) → IsUnsettled held → IsUnsettled (held_each rings slots limit F J counts held)
+unfolding held_each
+unsettled_each rings slots limit F J counts held u = record { ring = u.ring; below = u.below; tickets = by held u.tickets; going = u.going; rulers = u.rulers }
+  where
+    by : (h : IsHeld rings slots limit F J counts) → NeverGone h u.ring → NeverGone (held_each rings slots limit F J counts h) u.ring
+    by (inl h) never = tt
+    by (inr h) never = never
+
+-- the same answer holds
+pub holds_each : (plan : SearchPlan) (vars : ℕ) (F : FormulaData) (J : List Entry) (counts : List Counts) (held : IsHeld plan.threads plan.slots plan.conflicts F.clauses J counts) (a : Answer)
+    → Holds plan vars F J held a → Holds plan vars F J (held_each plan.threads plan.slots plan.conflicts F.clauses J counts held) a
+holds_each plan vars F J counts held (Sat model) h = h
+holds_each plan vars F J counts held Unsat h = h
+holds_each plan vars F J counts held Unknown h = h
+holds_each plan vars F J counts held (NoHole lack) h = (h.0, unsettled_each plan.threads plan.slots plan.conflicts F.clauses J counts held h.1)
+holds_each plan vars F J counts held ProofFault h = tt
+holds_each plan vars F J counts held Memory h = unsettled_each plan.threads plan.slots plan.conflicts F.clauses J counts held h
 
 -- ---- the lists of the tally
 
@@ -148,42 +176,53 @@ counted_is rings counts size =
     let exported : over (map (λ (c : Counts). c.exported) counts) (replicate rings 0) ≡ map (λ (c : Counts). c.exported) (each_counted rings counts) = over_zeros (λ (c : Counts). c.exported) rings counts refl size in
     λ i. record { learned = learned i; offered = offered i; exported = exported i; need = 0; largest = 0; code = 0; line = 0 }
 
--- ---- the lemmas of each ring
+-- ---- the lemmas of the rings
+
+-- the sum of numbers by their places
+sum_below : (xs : List ℕ) (f : ℕ → ℕ) → ((i d : ℕ) → i < length xs → slice_index_or xs i d ≡ f i) → sum xs ≡ below (length xs) f
+sum_below [] f each = refl
+sum_below (x ∷ xs) f each =
+    let first : x ≡ f 0 = each 0 0 (omega arith) in
+    let rest : sum xs ≡ below (length xs) (λ i. f (suc i)) = sum_below xs (λ i. f (suc i)) (λ i d lt. each (suc i) d (omega arith)) in
+    let cons = sum_by-cons (λ (n : ℕ). n) x xs in
+    let last = below_first (length xs) f in
+    omega (arith, first, rest, cons, last)
+
+-- so of the rings' lemmas
+sum_learned : (rings : ℕ) (J : List Entry) (numbers : List ℕ) → length numbers ≡ rings → ((ring d : ℕ) → ring < rings → slice_index_or numbers ring d ≡ length (learned ring J)) → sum numbers ≡ below rings (λ ring. length (learned ring J))
+sum_learned rings J numbers many each =
+    sum_below numbers (λ ring. length (learned ring J)) (λ ring d lt. each ring d (omega (arith, many, lt))) ∙ ap (λ (n : ℕ). below n (λ ring. length (learned ring J))) many
 
 -- the numbers are those of the journal's lemmas
 pub are_learned : (rings slots limit : ℕ) (F : List (List Literal)) (J : List Entry) (counts : List Counts) → IsHeld rings slots limit F J counts → length counts ≡ rings
     → AreLearned rings limit J (map (λ c. c.learned) counts)
 are_learned rings slots limit F J counts held long = record {
-  many = length-map counts (λ (c : Counts). c.learned) ∙ long;
-  each = λ ring d lt. get_or-map (λ (c : Counts). c.learned) counts ring no_counts d (omega (arith, long)) ∙ (one ring lt).0;
-  within = λ ring lt. (one ring lt).1;
+  many = many;
+  each = each;
+  within = (let sums = sum_learned rings J (map (λ c. c.learned) counts) many each in let few = all held in omega (arith, sums, few));
 }
   where
-    one : (ring : ℕ) → ring < rings → ((slice_index_or counts ring no_counts).learned ≡ length (learned ring J)) × (length (learned ring J) ≤ limit)
-    one ring lt = by held
-      where
-        by : IsHeld rings slots limit F J counts → ((slice_index_or counts ring no_counts).learned ≡ length (learned ring J)) × (length (learned ring J) ≤ limit)
-        by (inl h) =
-            let none = none_learned ring J h.rulers in
-            let zero_is : length (learned ring J) ≡ 0 = ap length none in
-            let zeros : counts ≡ replicate rings no_counts = elim h.none [
-              | inl e ↦ absurd (let none_there : length counts ≡ 0 = ap length e in omega (arith, none_there, long, lt))
-              | inr e ↦ e
-            ] in
-            (ap (λ (cs : List Counts). (slice_index_or cs ring no_counts).learned) zeros ∙ ap (λ (c : Counts). c.learned) (get_or-replicate rings ring no_counts no_counts lt) ∙ sym zero_is, omega (arith, zero_is))
-        by (inr h) =
-            let t = h.tallied ring no_counts lt in
-            (t.learned_is, subst (λ (n : ℕ). n ≤ limit) t.learned_is t.within)
+    many : length (map (λ (c : Counts). c.learned) counts) ≡ rings
+    many = length-map counts (λ (c : Counts). c.learned) ∙ long
 
-all_same : (numbers : List ℕ) (rings limit : ℕ) → length numbers ≡ rings → ((ring d : ℕ) → ring < rings → slice_index_or numbers ring d ≡ limit) → numbers ≡ replicate rings limit
-all_same [] zero limit long each = refl
-all_same [] (suc n) limit long each = absurd (omega (arith, long))
-all_same (x ∷ xs) zero limit long each = absurd (omega (arith, long))
-all_same (x ∷ xs) (suc n) limit long each =
-    let front : x ≡ limit = each 0 0 (omega arith) in
-    let rest : xs ≡ replicate n limit = all_same xs n limit (omega (arith, long)) (λ ring d lt. each (suc ring) d (omega arith)) in
-    λ i. front i ∷ rest i
+    one : (ring : ℕ) → ring < rings → IsHeld rings slots limit F J counts → (slice_index_or counts ring no_counts).learned ≡ length (learned ring J)
+    one ring lt (inl h) =
+        let none = none_learned ring J h.rulers in
+        let zero_is : length (learned ring J) ≡ 0 = ap length none in
+        let zeros : counts ≡ replicate rings no_counts = elim h.none [
+          | inl e ↦ absurd (let none_there : length counts ≡ 0 = ap length e in omega (arith, none_there, long, lt))
+          | inr e ↦ e
+        ] in
+        ap (λ (cs : List Counts). (slice_index_or cs ring no_counts).learned) zeros ∙ ap (λ (c : Counts). c.learned) (get_or-replicate rings ring no_counts no_counts lt) ∙ sym zero_is
+    one ring lt (inr h) = (h.tallied ring no_counts lt).learned_is
 
--- if each ring has learned its limit, the tally says so
-pub all_learned : (rings limit : ℕ) (F : List (List Literal)) (J : List Entry) (numbers : List ℕ) → AreLearned rings limit J numbers → SpentAll F J rings limit → numbers ≡ replicate rings limit
-all_learned rings limit F J numbers are spent = all_same numbers rings limit are.many (λ ring d lt. are.each ring d lt ∙ spent.spent.learns ring lt)
+    each : (ring d : ℕ) → ring < rings → slice_index_or (map (λ (c : Counts). c.learned) counts) ring d ≡ length (learned ring J)
+    each ring d lt = get_or-map (λ (c : Counts). c.learned) counts ring no_counts d (omega (arith, long)) ∙ one ring lt held
+
+    all : IsHeld rings slots limit F J counts → below rings (λ ring. length (learned ring J)) ≤ limit
+    all (inl h) = let none = below_none rings (λ ring. length (learned ring J)) (λ ring lt. ap length (none_learned ring J h.rulers)) in omega (arith, none)
+    all (inr h) = h.within
+
+-- if the rings together have learned as many lemmas as they may, the tally says so
+pub all_learned : (rings limit : ℕ) (F : List (List Literal)) (J : List Entry) (numbers : List ℕ) → AreLearned rings limit J numbers → SpentAll F J rings limit → sum numbers ≡ limit
+all_learned rings limit F J numbers are spent = sum_learned rings J numbers are.many are.each ∙ spent.spent.learns

@@ -27,8 +27,8 @@ pub record IsClearedModel (formula : FormulaData) (model : List Bool) : Type 0 w
   pub is_model : IsModel formula model
   pub idle : (var : ℕ) → occurs formula.clauses var ≡ false → value_of model var ≡ false
 
--- the verdict holds of the formula and the journal: there is a model; there is a refutation; each ring has learned its limit of
--- lemmas, each of them new
+-- the verdict holds of the formula and the journal: there is a model; there is a refutation; the rings together have learned as many
+-- lemmas as they may, each of them new
 abbrev pub Holds : Plan → FormulaData → List Entry → SearchVerdict → Type 0
 Holds plan formula journal (Satisfiable model) = IsClearedModel formula model
 Holds plan formula journal Unsatisfiable = IsRefutation formula.clauses journal
@@ -39,7 +39,7 @@ pub record Decides (plan : Plan) (formula : FormulaData) (journal : List Entry) 
   pub holds : Holds plan formula journal verdict
   pub ruled : IsRuledThrough formula (schedule_of plan) journal
 
--- the kind of the stop with which the rings come to the verdict; none if each ring has learned its limit
+-- the kind of the stop with which the rings come to the verdict; none if they have learned as many lemmas as they may
 abbrev pub verdict_kind : SearchVerdict → Option ℕ
 verdict_kind (Satisfiable model) = Some STOP_SAT
 verdict_kind Unsatisfiable = Some STOP_REFUTED

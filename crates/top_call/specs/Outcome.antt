@@ -115,18 +115,18 @@ pub record IsUnproved (formula : FormulaData) (journal : List Entry) (tally : Ta
 
 -- there was no room, for which the search stopped: for a start clause, for a clause that might come next after a front of the
 -- journal, or for one entry more of a full one. All clauses lie in the words that were asked for as the journal has it, in a table
--- over the variables that the ruler left. A ring has fewer lemmas than it may learn, and neither it nor the ruler has added the
--- empty clause. The tally has what was needed and what there was.
+-- over the variables that the ruler left. No draw of one of the rings has found all tickets gone, and neither it nor the ruler has
+-- added the empty clause. The tally has what was needed and what there was.
 pub record IsCrowded (lack : NoRoom) (formula : FormulaData) (journal : List Entry) (tally : Tally) (run : Run) : Type 0 where
   pub started : IsStarted (Some STOP_ROOM) lack formula journal tally run
   pub room : HasNoRoom run.plan.search started.ruled.work.vars formula.clauses journal lack
-  pub unsettled : IsUnsettled run.plan.search.threads run.plan.search.conflicts journal
+  pub unsettled : IsUnsettled started.held
 
--- memory ran out in the search, before a verdict: a ring has fewer lemmas than it may learn, and neither it nor the ruler has added
--- the empty clause; the output is as it was
+-- memory ran out in the search, before a verdict: no draw of one of the rings has found all tickets gone, and neither it nor the
+-- ruler has added the empty clause; the output is as it was
 pub record IsStarved (formula : FormulaData) (journal : List Entry) (tally : Tally) (run : Run) : Type 0 where
   pub started : IsStarted (Some STOP_MEMORY) no_lack formula journal tally run
-  pub unsettled : IsUnsettled run.plan.search.threads run.plan.search.conflicts journal
+  pub unsettled : IsUnsettled started.held
   pub out : IsStill run.out.faults
 
 -- memory ran out in the check of the log, which is asked for, after a verdict that holds; no call of the proof or the output

@@ -34,12 +34,12 @@ abbrev pub plan_of : Option Command → CallPlan
 plan_of None = record { search = no_search; make = None }
 plan_of (Some command) = record { search = search_of command; make = command.make }
 
--- what is asked of a search can be done: 1 to 16 rings, each of which may learn a lemma, over no more words than can be numbered, with
--- 1 to 16 slots for each two rings and class
+-- what is asked of a search can be done: 1 to 16 rings, which together may learn at most 10^12 lemmas, over no more words than can be
+-- numbered, with 1 to 16 slots for each two rings and class
 pub record IsInRange (plan : SearchPlan) : Type 0 where
   pub some_rings : 1 ≤ plan.threads
   pub few_rings : plan.threads ≤ 16
-  pub some_lemmas : 1 ≤ plan.conflicts
+  pub few_lemmas : plan.conflicts ≤ 10 ^ 12
   pub few_words : plan.words ≤ 2 ^ 31
   pub some_slots : 1 ≤ plan.slots
   pub few_slots : plan.slots ≤ 16

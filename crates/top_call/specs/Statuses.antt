@@ -1,6 +1,6 @@
 -- What a report says, by its status: of the formula that was read or made and of the one journal of the run; and when the call must
 -- answer.
-use Rattle.std.specs.Prelude.{◌≡◌, ◌≢◌, ◌⊎◌, ℕ, List, [], Bool, Some, None, replicate, IfSome, IsSome}
+use Rattle.std.specs.Prelude.{◌≡◌, ◌≢◌, ◌⊎◌, ℕ, List, [], length, sum, Bool, Some, None, IfSome, IsSome}
 use Rattle.std.specs.declared.option.Option.{Option}
 use Rattle.sat_words.specs.FormulaData.{FormulaData}
 use Rattle.rup_model.specs.declared.journal.Entry.{Entry}
@@ -38,10 +38,11 @@ pub record HasModel (model : Option (List Bool)) (formula : FormulaData) (journa
   pub reported : model ≡ Some values
   pub answers : Answers (Satisfiable values) formula journal tally call
 
--- each ring has learned as many lemmas as it may, and the tally says so
+-- the rings together have learned as many lemmas as they may, and the tally, with a number for each ring, says so
 pub record IsExhausted (formula : FormulaData) (journal : List Entry) (tally : Tally) (call : Call) : Type 0 where
   pub answers : Answers Unknown formula journal tally call
-  pub learned : tally.learned ≡ replicate (search_in call).threads (search_in call).conflicts
+  pub many : length tally.learned ≡ (search_in call).threads
+  pub learned : sum tally.learned ≡ (search_in call).conflicts
 
 -- the arguments are refused, and nothing was opened or created
 pub record IsUnasked (journal : List Entry) (tally : Tally) (call : Call) : Type 0 where
@@ -94,8 +95,9 @@ pub record HasJournal (formula : FormulaData) (journal : List Entry) (call : Cal
   pub log : IfSome call.proof (HoldsLog (search_in call).format formula.clauses journal searched)
 
 -- the ruler alone wrote the journal, or a list of enabled steps of the rings from the ruler's end on leaves it: so no clause was
--- deleted that a ring, a place of an exchange or an open grant still had. The tally has what each ring counted, its lemmas, those
--- that it offered, and the places of other rings in which it put them, one for each of them and lemma.
+-- deleted that a ring, a place of an exchange or an open grant still had, and the rings together learned no more lemmas than they
+-- may. The tally has what each ring counted, its lemmas, those that it offered, and the places of other rings in which it put them,
+-- one for each of them and lemma.
 pub record IsCounted (formula : FormulaData) (journal : List Entry) (tally : Tally) (call : Call) : Type 0 where
   pub counts : List Counts
   pub held : IsHeld (search_in call).threads (search_in call).slots (search_in call).conflicts formula.clauses journal counts

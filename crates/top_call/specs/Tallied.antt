@@ -1,5 +1,5 @@
 -- The numbers of a report.
-use Rattle.std.specs.Prelude.{◌≡◌, ◌≤◌, ◌<◌, ℕ, List, [], ◌++◌, length, map, drop, replicate, slice_index_or}
+use Rattle.std.specs.Prelude.{◌≡◌, ◌≤◌, ◌<◌, ℕ, List, [], ◌++◌, length, map, drop, sum, replicate, slice_index_or}
 use Rattle.sat_words.specs.declared.shared.NoRoom.{NoRoom}
 use Rattle.rup_model.specs.declared.journal.Entry.{Entry}
 use Rattle.rup_model.specs.Journal.{learned}
@@ -61,11 +61,11 @@ pub record Tells (counts : List Counts) (tally : Tally) : Type 0 where
   pub offered : tally.offered ≡ map (λ c. c.offered) counts
   pub exported : tally.exported ≡ map (λ c. c.exported) counts
 
--- a number for each of the rings, that of the lemmas which it has learned, at most as many as it may
+-- a number for each of the rings, that of the lemmas which it has learned; together they are at most as many as the rings may learn
 pub record AreLearned (rings limit : ℕ) (journal : List Entry) (numbers : List ℕ) : Type 0 where
   pub many : length numbers ≡ rings
   pub each : (ring d : ℕ) → ring < rings → slice_index_or numbers ring d ≡ length (learned ring journal)
-  pub within : (ring : ℕ) → ring < rings → length (learned ring journal) ≤ limit
+  pub within : sum numbers ≤ limit
 
 -- with the numbers of an end that has some
 abbrev pub noted : CallEnd → Tally → Tally

@@ -119,7 +119,7 @@ solver_app = with_rules bare_app solver_rules
 pub record Command : Type 0 where
   -- how many rings search
   pub threads : ℕ
-  -- how many lemmas each ring may learn
+  -- how many lemmas the rings may learn together
   pub conflicts : ℕ
   -- how many words of 64 bits there are for clauses
   pub words : ℕ

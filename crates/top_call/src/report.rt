@@ -18,7 +18,7 @@ pub enum SearchVerdict {
     Satisfiable(Assignment),
     /// No assignment makes each clause true, and the log shows it.
     Unsatisfiable,
-    /// Each ring learned its limit of lemmas before one knew the answer.
+    /// The rings together learned as many lemmas as they may before one knew the answer.
     Unknown,
 }
 

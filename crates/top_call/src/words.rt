@@ -20,7 +20,7 @@ use std::alloc::{AllocError, Global};
 pub struct Command<'a> {
     /// How many rings search.
     pub threads: u32,
-    /// How many lemmas each ring may learn.
+    /// How many lemmas the rings may learn together.
     pub conflicts: u64,
     /// How many words of 64 bits there are for clauses.
     pub words: u64,
@@ -110,11 +110,11 @@ fn slots_in(matches: &ArgMatches<'_>) -> u32
     }
 }
 
-/// How many lemmas each ring may learn.
+/// How many lemmas the rings may learn together.
 fn conflicts_in(matches: &ArgMatches<'_>) -> u64
     requires { HasLimit matches.now }
     ensures number { result ≡ (command_in (rows_of (found_of matches.now))).conflicts }
-    ensures some { 1 ≤ result }
+    ensures few { result ≤ 10 ^ 12 }
 {
     match matches.get_one::<u64>("conflicts") {
         Some(number) => number,

@@ -14,8 +14,6 @@ returns-clause-ready g c =
     let e = c.in_ok-port.ensures in
     let small = c.args.table.now.vars in
     let lay = ap (λ (l : Layout). l.vars) p.2 in
-    let some = c.requires.some in
-    let limit = ap (λ (j : Job). j.conflicts) is in
-    is_ready pass.me.0 c.args.ring (home_of pass) c.in_ok-port.port job c.requires.pass.1 e.made e.holds e.port (omega arith) (omega arith)
+    is_ready pass.me.0 c.args.ring (home_of pass) c.in_ok-port.port job c.requires.pass.1 e.made e.holds e.port (omega arith)
     (ap (λ (j : Job). j.vars) is ∙ ap (λ (l : Layout). l.vars) (sym p.2))
     (ap (λ (j : Job). j.ring) is) (ap (λ (j : Job). j.rings) is ∙ ap (λ (l : Layout). l.rings) (sym p.2) ∙ rings_are pass.me.0 p.3) (ap (λ (j : Job). j.start) is ∙ c.requires.start)

@@ -78,7 +78,7 @@ finish-requires g c κs within =
           (c.in-Ok.ensures.told ∙ (λ i. told_new w f t fa plan.format (length (c.clauses.ensures i)) (q.0 i) plan.keep_lines)) c.simplify-outcome.ensures;
     } in (
       within,
-      refuted_book w f t fa g.given plan F b c.simplify-outcome.result.0 c.args.tally.items q.1.1.1.1.1.0 q.1.1.1.1.1.1.0 q.1.0.0 q.1.1.0 q.1.1.1.1.1.1.1.1 was c.has_its_log.ensures.whole c.has_its_log.ensures.cut
+      refuted_book w f t fa g.given plan F b c.simplify-outcome.result.0 c.args.tally.items q.1.1.1.1.1.0 q.1.1.1.1.1.1.0 q.1.0.0 q.1.1.1.1.1.1.1.1 was c.has_its_log.ensures.whole c.has_its_log.ensures.cut
           (c.in-Ok-Refuted.is ∙ ap Ok c.in-Ok-Refuted.field-0-is),
     )
 
@@ -99,5 +99,5 @@ finish-requires-in-Err-outcome g c κs within =
     } in (
       within,
       subst (λ (a : Answer). HasReached w f t fa g.given plan F a c.args.tally.items b) (sym c.answer_of_stop.ensures)
-          (stopped_book w f t fa g.given plan F b c.simplify-outcome.result.0 c.args.tally.items q.1.1.1.1.1.0 q.1.1.1.1.1.1.0 q.1.0.0 q.1.1.0 q.1.1.1.1.1.1.1.1 was c.has_its_log.ensures.whole c.has_its_log.ensures.cut c.in-Err-outcome.stop c.in-Err-outcome.is),
+          (stopped_book w f t fa g.given plan F b c.simplify-outcome.result.0 c.args.tally.items q.1.1.1.1.1.0 q.1.1.1.1.1.1.0 q.1.0.0 q.1.1.1.1.1.1.1.1 was c.has_its_log.ensures.whole c.has_its_log.ensures.cut c.in-Err-outcome.stop c.in-Err-outcome.is),
     )

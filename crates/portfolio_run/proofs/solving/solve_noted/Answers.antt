@@ -26,20 +26,17 @@ close_table-requires g c κs within =
       (
         q.0,
         (
-          q.1.0,
+          q.1.1.1.1.0,
           (
-            q.1.1.1.1.0,
-            (
-              q.1.1.1.1.1.0,
-              record {
-                left = c.args.left;
-                first = c.in-Ok.first;
-                cells = c.in-Ok.cells.items;
-                opened = o;
-                home = home_of c.in-Ok.first;
-                searched = subst (λ (ds : List Counts). HasSearched c.in-Ok.table c.in-Ok.first.me.0 (home_of c.in-Ok.first) c.args.plan.now c.args.formula.now.vars c.args.left.stack c.search-answer.new.first ds c.search-answer.new.tally.items c.search-answer.result) q.1.1.1.1.1.1.1.1 c.search-answer.ensures;
-              },
-            ),
+            q.1.1.1.1.1.0,
+            record {
+              left = c.args.left;
+              first = c.in-Ok.first;
+              cells = c.in-Ok.cells.items;
+              opened = o;
+              home = home_of c.in-Ok.first;
+              searched = subst (λ (ds : List Counts). HasSearched c.in-Ok.table c.in-Ok.first.me.0 (home_of c.in-Ok.first) c.args.plan.now c.args.formula.now.vars c.args.left.stack c.search-answer.new.first ds c.search-answer.new.tally.items c.search-answer.result) q.1.1.1.1.1.1.1.1 c.search-answer.ensures;
+            },
           ),
         ),
       ),

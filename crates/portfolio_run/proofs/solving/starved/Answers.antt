@@ -14,5 +14,5 @@ returns-clause-solved g c =
     let flushed = g.S.Sink.flushed c.flush.new.self in
     let e = c.flush.ensures in
     subst (λ (w : Option (List ℕ)). IsSolved c.args._plan.now c.args._formula.now Memory c.args.tally.items before faults flushed w None) (sym e.bytes)
-    (starved c.args._plan.now c.args._formula.now c.args.tally.items before faults flushed (g.S.Sink.written c.args.sink) c.requires.few c.requires.on c.requires.threads c.requires.conflicts c.requires.none c.requires.empty e.cause.later
+    (starved c.args._plan.now c.args._formula.now c.args.tally.items before faults flushed (g.S.Sink.written c.args.sink) c.requires.few c.requires.on c.requires.threads c.requires.none c.requires.empty e.cause.later
     (subst (λ (w : Option (List ℕ)). IsClosed before faults flushed w) e.bytes (flush_closes before faults (g.S.Sink.written c.flush.new.self) (g.S.Sink.flushed c.args.sink) flushed c.flush.result e.cause e.flushed)))

@@ -8,13 +8,13 @@ use Rattle.ring_run.proofs.Progress.{empty_refutes, refused_ends}
 use Rattle.ring_run.proofs.course.refute.Goals as goal
 
 pub returns-in-Ok-clause-ends : goal.returns-in-Ok-clause-ends
-returns-in-Ok-clause-ends g c = λ n limit below start p.
-    empty_refutes start (g.P.Port.state c.args.port.now) (g.P.Port.state c.empty.new.self) n limit below p c.in-Ok.ensures.written c.empty.ensures.log c.empty.ensures.port
+returns-in-Ok-clause-ends g c = λ n start p.
+    empty_refutes start (g.P.Port.state c.args.port.now) (g.P.Port.state c.empty.new.self) n p c.in-Ok.ensures.written c.empty.ensures.log c.empty.ensures.port
 
 pub returns-in-Err-clause-ends : goal.returns-in-Err-clause-ends
-returns-in-Err-clause-ends g c = λ n limit below start p.
-    subst (λ (end : End). ComesTo start (g.P.Port.state c.empty.new.self) n limit end) (sym c.end_refused.ensures)
-    (refused_ends start (g.P.Port.state c.args.port.now) (g.P.Port.state c.empty.new.self) n limit c.in-Err.stop below p c.in-Err.ensures.written c.empty.ensures.log c.empty.ensures.port)
+returns-in-Err-clause-ends g c = λ n start p.
+    subst (λ (end : End). ComesTo start (g.P.Port.state c.empty.new.self) n end) (sym c.end_refused.ensures)
+    (refused_ends start (g.P.Port.state c.args.port.now) (g.P.Port.state c.empty.new.self) n c.in-Err.stop p c.in-Err.ensures.written c.empty.ensures.log c.empty.ensures.port)
 
 pub returns-in-Ok-clause-nothing : goal.returns-in-Ok-clause-nothing
 returns-in-Ok-clause-nothing g c = nothing_empty (g.P.Port.state c.args.port.now) (g.P.Port.state c.empty.new.self) c.empty.result c.empty.ensures.written

@@ -16,17 +16,17 @@ pub returns-in-Some-clause-leads : goal.returns-in-Some-clause-leads
 returns-in-Some-clause-leads g c =
     let s = g.P.Port.state c.args.port.now in
     let after : Ring = record c.args.ring.now { trail = c.decide.new.self; decider = c.next.new.self } in
-    goes_on_by s s c.args.ring.now after c.args.limit
+    goes_on_by s s c.args.ring.now after
     (subst (λ (t : TrailData). Searches s t c.args.ring.now.watches c.args.ring.now.written) (sym c.decide.ensures.step)
     (decided_search s c.args.ring.now.trail c.args.ring.now.watches c.args.ring.now.written _ c.requires.search c.requires.quiet c.requires.first (subst IsTrail c.decide.ensures.step c.decide.ensures.trail)))
-    c.requires.below (λ start p. p)
+    (λ start p. p)
 
 pub returns-in-Ok-clause-leads : goal.returns-in-Ok-clause-leads
 returns-in-Ok-clause-leads g c =
-    model_found (g.P.Port.state c.args.port.now) c.args.ring.now c.args.limit c.in-Ok.model c.requires.search c.requires.below c.requires.quiet c.requires.first c.requires.decides (c.next.ensures.none c.in_default.is) c.in-Ok.ensures.long c.in-Ok.ensures.all
+    model_found (g.P.Port.state c.args.port.now) c.args.ring.now c.in-Ok.model c.requires.search c.requires.quiet c.requires.first c.requires.decides (c.next.ensures.none c.in_default.is) c.in-Ok.ensures.long c.in-Ok.ensures.all
 
 pub returns-in-Err-clause-leads : goal.returns-in-Err-clause-leads
-returns-in-Err-clause-leads g c = λ start p. out_of_memory start (g.P.Port.state c.args.port.now) c.args.ring.now.learned c.args.limit c.requires.below p
+returns-in-Err-clause-leads g c = λ start p. out_of_memory start (g.P.Port.state c.args.port.now) c.args.ring.now.learned p
 
 pub returns-in-Some-clause-polls : goal.returns-in-Some-clause-polls
 returns-in-Some-clause-polls g c = λ p. record { place = p.place; polled = p.polled; low = λ e. absurd (false≢true (sym c.requires.settled ∙ e)) }
@@ -58,4 +58,4 @@ end_found-requires g c = if_some c.args.model.now (λ (a : List Bool). length a 
 pub returns-then-agrees-clause-leads : goal.returns-then-agrees-clause-leads
 returns-then-agrees-clause-leads g c =
     let found = c.agrees.ensures.0 c.if-agrees.true in
-    found_leads (g.P.Port.state c.args.port.now) c.args.ring.now c.args.limit c.args.model.now c.end_found.result c.requires.search c.requires.below c.requires.quiet c.requires.first c.requires.found found.0 found.1 found.2 c.end_found.ensures
+    found_leads (g.P.Port.state c.args.port.now) c.args.ring.now c.args.model.now c.end_found.result c.requires.search c.requires.quiet c.requires.first c.requires.found found.0 found.1 found.2 c.end_found.ensures

@@ -43,7 +43,7 @@ write_pending-requires g c = record {
 
 pub returns-in-Some-clause-leads : goal.returns-in-Some-clause-leads
 returns-in-Some-clause-leads g c = λ start p.
-    stop_seen start (g.P.Port.state c.args.port.now) (g.P.Port.state c.stopped.new.self) c.args.ring.now.learned c.args.limit c.in-Some.stop c.requires.below p c.in-Some.ensures.looked c.stopped.ensures.log c.stopped.ensures.port
+    stop_seen start (g.P.Port.state c.args.port.now) (g.P.Port.state c.stopped.new.self) c.args.ring.now.learned c.in-Some.stop p c.in-Some.ensures.looked c.stopped.ensures.log c.stopped.ensures.port
 
 pub returns-in-Some-clause-offering : goal.returns-in-Some-clause-offering
 returns-in-Some-clause-offering g c = λ p.
@@ -59,9 +59,9 @@ returns-in-Some-clause-polls g c =
 
 pub returns-in-Err-clause-leads : goal.returns-in-Err-clause-leads
 returns-in-Err-clause-leads g c = λ start p.
-    subst (λ n. ComesTo start (g.P.Port.state c.write_pending.new.port) n c.args.limit c.end_refused.result) (sym c.write_pending.ensures.learned)
-    (subst (λ end. ComesTo start (g.P.Port.state c.write_pending.new.port) c.args.ring.now.learned c.args.limit end) (sym c.end_refused.ensures)
-    (c.in-Err.ensures.over c.args.ring.now.learned c.args.limit c.requires.below start (looked_goes_on start (g.P.Port.state c.args.port.now) (g.P.Port.state c.stopped.new.self) c.args.ring.now.learned (one_more (g.P.Port.state c.args.port.now).looks) p c.in_default.ensures.looked.1 c.stopped.ensures.log c.stopped.ensures.port)))
+    subst (λ n. ComesTo start (g.P.Port.state c.write_pending.new.port) n c.end_refused.result) (sym c.write_pending.ensures.learned)
+    (subst (λ end. ComesTo start (g.P.Port.state c.write_pending.new.port) c.args.ring.now.learned end) (sym c.end_refused.ensures)
+    (c.in-Err.ensures.over c.args.ring.now.learned start (looked_goes_on start (g.P.Port.state c.args.port.now) (g.P.Port.state c.stopped.new.self) c.args.ring.now.learned (one_more (g.P.Port.state c.args.port.now).looks) p c.in_default.ensures.looked.1 c.stopped.ensures.log c.stopped.ensures.port)))
 
 pub returns-in-Err-clause-offering : goal.returns-in-Err-clause-offering
 returns-in-Err-clause-offering g c = λ p.
@@ -121,9 +121,9 @@ returns-then-ring-clause-leads g c =
     let w = g.P.Port.state c.write_pending.new.port in
     let old = c.args.ring.now in
     let ring = c.write_pending.new.ring in
-    compose c.reduce_vivify_import.result s w (g.P.Port.state c.reduce_vivify_import.new.port) old ring c.reduce_vivify_import.new.ring c.args.limit
+    compose c.reduce_vivify_import.result s w (g.P.Port.state c.reduce_vivify_import.new.port) old ring c.reduce_vivify_import.new.ring
     (λ start p. subst (GoesOn start w) (sym c.write_pending.ensures.learned) (c.in-Ok.ensures.ok start old.learned (looked_goes_on start s m old.learned (one_more s.looks) p c.in_default.ensures.looked.1 c.stopped.ensures.log c.stopped.ensures.port)))
-    (c.reduce_vivify_import.ensures.leads c.args.limit (omega (arith, c.requires.below, c.write_pending.ensures.learned)))
+    c.reduce_vivify_import.ensures.leads
 
 pub returns-then-ring-clause-offering : goal.returns-then-ring-clause-offering
 returns-then-ring-clause-offering g c = λ p.
@@ -139,7 +139,7 @@ pub returns-then-ring-clause-further : goal.returns-then-ring-clause-further
 returns-then-ring-clause-further g c = λ on.
     (let trail = ap (λ (t : TrailData). length t.steps) c.write_pending.ensures.trail in
     inr (
-      record { learned = c.reduce_vivify_import.ensures.learned ∙ c.write_pending.ensures.learned; steps = omega (arith, c.reduce_vivify_import.ensures.steps on, trail) },
+      record { found = c.reduce_vivify_import.ensures.undrawn on ∙ c.write_pending.ensures.nothing.found ∙ ap (λ (x : PortState). x.found) c.in_default.ensures.looked.1; steps = omega (arith, c.reduce_vivify_import.ensures.steps on, trail) },
       inr (sym c.write_pending.ensures.import_due ∙ c.if-ring.true, c.reduce_vivify_import.ensures.settled on),
     ))
 
@@ -164,7 +164,7 @@ returns-clause-leads g c =
     let w = g.P.Port.state c.write_pending.new.port in
     let old = c.args.ring.now in
     let ring = c.write_pending.new.ring in
-    compose c.decide.result s w (g.P.Port.state c.decide.new.port) old ring c.decide.new.ring c.args.limit
+    compose c.decide.result s w (g.P.Port.state c.decide.new.port) old ring c.decide.new.ring
     (λ start p. subst (GoesOn start w) (sym c.write_pending.ensures.learned) (c.in-Ok.ensures.ok start old.learned (looked_goes_on start s m old.learned (one_more s.looks) p c.in_default.ensures.looked.1 c.stopped.ensures.log c.stopped.ensures.port)))
     c.decide.ensures.leads
 
@@ -194,7 +194,7 @@ pub returns-clause-further : goal.returns-clause-further
 returns-clause-further g c = λ on.
     (let trail = ap (λ (t : TrailData). length t.steps) c.write_pending.ensures.trail in
     inr (
-      record { learned = c.decide.ensures.learned ∙ c.write_pending.ensures.learned; steps = omega (arith, c.decide.ensures.longer on, trail) },
+      record { found = ap (λ (x : PortState). x.found) c.decide.ensures.same ∙ c.write_pending.ensures.nothing.found ∙ ap (λ (x : PortState). x.found) c.in_default.ensures.looked.1; steps = omega (arith, c.decide.ensures.longer on, trail) },
       inl (c.decide.ensures.import_due ∙ c.write_pending.ensures.import_due, omega (arith, c.decide.ensures.longer on, trail)),
     ))
 
@@ -216,7 +216,8 @@ returns-clause-listed g c = λ on.
 pub reduce_vivify_import-requires-clause-few : goal.reduce_vivify_import-requires-clause-few
 reduce_vivify_import-requires-clause-few g c =
     let p = reduce_vivify_import-requires-clause-listed g c in
-    omega (arith, p.count, p.few, c.requires.below, c.write_pending.ensures.learned)
+    let draws = c.requires.draws in
+    omega (arith, p.count, p.few, draws.within, draws.left, c.requires.search.clauses.port.few, c.write_pending.ensures.learned)
 
 pub reduce_vivify_import-requires-clause-quiet : goal.reduce_vivify_import-requires-clause-quiet
 reduce_vivify_import-requires-clause-quiet g c =

@@ -28,8 +28,8 @@ use Rattle.ring_run.proofs.Rounds.{imports_halted, imports_over, imports_same, i
 use Rattle.ring_run.proofs.InTime.{in_time_halted, in_time_same, in_time_more}
 
 pub returns-in-Opposed-clause-leads : goal.returns-in-Opposed-clause-leads
-returns-in-Opposed-clause-leads g c = λ limit below start p.
-    c.refute.ensures.ends c.args.ring.now.learned limit below start (c.take_units.ensures.keeps start c.args.ring.now.learned p)
+returns-in-Opposed-clause-leads g c = λ start p.
+    c.refute.ensures.ends c.args.ring.now.learned start (c.take_units.ensures.keeps start c.args.ring.now.learned p)
 
 pub returns-in-Opposed-clause-polls : goal.returns-in-Opposed-clause-polls
 returns-in-Opposed-clause-polls g c =
@@ -49,14 +49,14 @@ returns-in-Opposed-clause-offering g c = λ p.
     (record { exported = refl; offered = refl; place = refl }) refl p
 
 pub returns-in-Err-clause-leads : goal.returns-in-Err-clause-leads
-returns-in-Err-clause-leads g c = λ limit below start p.
+returns-in-Err-clause-leads g c = λ start p.
     let s = g.P.Port.state c.args.port.now in
     let m = g.P.Port.state c.take_units.new.port in
     let u = g.P.Port.state c.take_clauses.new.port in
     let ring = c.args.ring.now in
     let after = c.take_clauses.new.ring in
     let count : after.learned ≡ ring.learned = ap (λ (r : Ring). r.learned) c.take_clauses.ensures.same in
-    out_of_memory start u after.learned limit (omega (arith, below, count))
+    out_of_memory start u after.learned
     (subst (GoesOn start u) (sym count) (c.take_clauses.ensures.keeps start ring.learned (c.take_units.ensures.keeps start ring.learned p)))
 
 pub returns-in-Err-clause-polls : goal.returns-in-Err-clause-polls
@@ -87,14 +87,14 @@ returns-in-Err-clause-offering g c = λ p.
     (ap (λ (x : PortState). learned x.ring x.mine) only ∙ nothing.lemmas) (ap (λ (r : Ring). r.exported) same) (ap (λ (r : Ring). r.offered) same) (ap (λ (r : Ring). r.learned) same) p
 
 pub returns-clause-leads : goal.returns-clause-leads
-returns-clause-leads g c = λ limit below.
+returns-clause-leads g c =
     let s = g.P.Port.state c.args.port.now in
     let m = g.P.Port.state c.take_units.new.port in
     let u = g.P.Port.state c.take_clauses.new.port in
     let ring = c.args.ring.now in
     let after = c.take_clauses.new.ring in
     let count : after.learned ≡ ring.learned = ap (λ (r : Ring). r.learned) c.take_clauses.ensures.same in
-    goes_on_by s u ring (record after { import_due = false }) limit c.in-Ok.ensures.search (omega (arith, below, count))
+    goes_on_by s u ring (record after { import_due = false }) c.in-Ok.ensures.search
     (λ start p. subst (GoesOn start u) (sym count) (c.take_clauses.ensures.keeps start ring.learned (c.take_units.ensures.keeps start ring.learned p)))
 
 pub returns-clause-polls : goal.returns-clause-polls

@@ -4,7 +4,7 @@ use Rattle.ring_port.specs.PortState.{PortState}
 use Rattle.ring_decide.specs.DeciderData.{DeciderData}
 use Rattle.ring_run.specs.Searching.{IsAsserting, OffersNothing}
 use Rattle.ring_run.specs.Ending.{EndsAt, WroteEmpty}
-use Rattle.ring_run.specs.Learning.{ComesOf}
+use Rattle.ring_run.specs.Learning.{CameOfDraw}
 use Rattle.ring_run.specs.declared.job.End.TheVariants.{Memory}
 use Rattle.ring_run.specs.declared.ring.Ring.{Ring}
 use Rattle.ring_run.specs.declared.course.Next.TheVariants as course
@@ -24,30 +24,30 @@ learn_lemma-requires-clause-lemma g c =
     (subst (λ (x : PortState). IsAsserting x c.args.ring.now.trail c.analyze.new.self.lits c.in-Lemma.back) (sym c.analyze.ensures.same) asserting)
 
 -- what the empty clause leaves
-refuted : (g : Over) (c : After-refute g) → BehindLemma (g.P.Port.state c.args.port.now) (g.P.Port.state c.refute.new.port) c.args.ring.now c.args.ring.now c.args.conflict c.analyze.new.self.lits c.args.limit (course.Finish c.refute.result)
+refuted : (g : Over) (c : After-refute g) → BehindLemma (g.P.Port.state c.args.port.now) (g.P.Port.state c.refute.new.port) c.args.ring.now c.args.ring.now c.args.conflict c.analyze.new.self.lits (course.Finish c.refute.result)
 refuted g c =
     let s = g.P.Port.state c.args.port.now in
     let u = g.P.Port.state c.refute.new.port in
     let old = c.args.ring.now in
     let same = c.analyze.ensures.same in
-    behind_end s u old old c.args.conflict c.analyze.new.self.lits c.args.limit c.refute.result
+    behind_end s u old old c.args.conflict c.analyze.new.self.lits c.refute.result
     (record { learned = refl; restarts = refl; active = refl; offers = record { exported = refl; offered = refl; place = refl } })
     (subst (λ (x : PortState). EndsAt x u c.refute.result) same c.refute.ensures.ends) c.refute.ensures.refusal
     (inl (c.in-Empty.ensures.found.0, subst (λ (x : PortState). WroteEmpty x u c.refute.result) same c.refute.ensures.empty, record { learned = refl; restarts = refl; exported = refl; offered = refl }))
     (subst (λ (x : PortState). OffersNothing x u) same c.refute.ensures.nothing)
     (subst (λ (x : PortState). u.held ≡ x.held) same c.refute.ensures.held) (subst (λ (x : PortState). u.looks ≡ x.looks) same c.refute.ensures.looks)
-    c.requires.below c.requires.paced c.requires.offering
+    c.requires.paced c.requires.offering
 
 -- what is left if there is no room for the analyzed variables
-crowded : (g : Over) (c : After-bump_analyzed g) → BehindLemma (g.P.Port.state c.args.port.now) (g.P.Port.state c.analyze.new.port) c.args.ring.now (record c.args.ring.now { decider = c.bump_analyzed.new.decider; bumps = c.bump_analyzed.new.bumps }) c.args.conflict c.analyze.new.self.lits c.args.limit (course.Finish Memory)
+crowded : (g : Over) (c : After-bump_analyzed g) → BehindLemma (g.P.Port.state c.args.port.now) (g.P.Port.state c.analyze.new.port) c.args.ring.now (record c.args.ring.now { decider = c.bump_analyzed.new.decider; bumps = c.bump_analyzed.new.bumps }) c.args.conflict c.analyze.new.self.lits (course.Finish Memory)
 crowded g c =
     let old = c.args.ring.now in
-    behind_memory (g.P.Port.state c.args.port.now) (g.P.Port.state c.analyze.new.port) old (record old { decider = c.bump_analyzed.new.decider; bumps = c.bump_analyzed.new.bumps }) c.args.conflict c.analyze.new.self.lits c.args.limit c.analyze.ensures.same
+    behind_memory (g.P.Port.state c.args.port.now) (g.P.Port.state c.analyze.new.port) old (record old { decider = c.bump_analyzed.new.decider; bumps = c.bump_analyzed.new.bumps }) c.args.conflict c.analyze.new.self.lits c.analyze.ensures.same
     (record { learned = refl; restarts = refl; active = ap (λ (d : DeciderData). d.active) c.bump_analyzed.ensures.same; offers = record { exported = refl; offered = refl; place = refl } })
-    c.requires.below c.requires.paced c.requires.offering
+    c.requires.paced c.requires.offering
 
 -- what learning the lemma leaves
-behind : (g : Over) (c : After-learn_lemma g) → BehindLemma (g.P.Port.state c.args.port.now) (g.P.Port.state c.learn_lemma.new.port) c.args.ring.now c.learn_lemma.new.ring c.args.conflict c.analyze.new.self.lits c.args.limit c.learn_lemma.result
+behind : (g : Over) (c : After-learn_lemma g) → BehindLemma (g.P.Port.state c.args.port.now) (g.P.Port.state c.learn_lemma.new.port) c.args.ring.now c.learn_lemma.new.ring c.args.conflict c.analyze.new.self.lits c.learn_lemma.result
 behind g c =
     let s = g.P.Port.state c.args.port.now in
     let u = g.P.Port.state c.learn_lemma.new.port in
@@ -57,18 +57,17 @@ behind g c =
     let lits = c.analyze.new.self.lits in
     let back = c.in-Lemma.back in
     let glue = c.in-Lemma.glue in
-    let limit = c.args.limit in
     let course = c.learn_lemma.result in
-    let came = subst (λ (ls : List Literal). ComesOf (g.P.Port.state c.analyze.new.port) u x new ls back glue limit course) c.lits.ensures c.learn_lemma.ensures.comes in
-    behind_lemma s u old x new c.args.conflict lits back glue limit course c.bump_analyzed.ensures.same
-    (can_found s old c.args.conflict lits back glue limit c.requires.search c.requires.below c.requires.paced c.requires.offering c.requires.listed c.requires.conflict c.in-Lemma.ensures.found)
-    c.in-Lemma.ensures.found.1 (subst (λ (y : PortState). ComesOf y u x new lits back glue limit course) c.analyze.ensures.same came) c.learn_lemma.ensures.port
+    let came = subst (λ (ls : List Literal). CameOfDraw (g.P.Port.state c.analyze.new.port) u x new ls back glue course) c.lits.ensures c.learn_lemma.ensures.comes in
+    behind_lemma s u old x c.args.conflict lits back glue c.bump_analyzed.ensures.same
+    (can_found s old c.args.conflict lits back glue c.requires.search c.requires.paced c.requires.offering c.requires.listed c.requires.conflict c.in-Lemma.ensures.found)
+    c.in-Lemma.ensures.found.1 new course (subst (λ (y : PortState). CameOfDraw y u x new lits back glue course) c.analyze.ensures.same came) c.learn_lemma.ensures.port
 
 pub returns-in-Empty-clause-leads : goal.returns-in-Empty-clause-leads
 returns-in-Empty-clause-leads g c = (refuted g (goal.at.returns-in-Empty-clause-leads g c).After-refute).leads
 
-pub returns-in-Empty-clause-more : goal.returns-in-Empty-clause-more
-returns-in-Empty-clause-more g c = (refuted g (goal.at.returns-in-Empty-clause-more g c).After-refute).more
+pub returns-in-Empty-clause-drawn : goal.returns-in-Empty-clause-drawn
+returns-in-Empty-clause-drawn g c = (refuted g (goal.at.returns-in-Empty-clause-drawn g c).After-refute).drawn
 
 pub returns-in-Empty-clause-learns : goal.returns-in-Empty-clause-learns
 returns-in-Empty-clause-learns g c = (refuted g (goal.at.returns-in-Empty-clause-learns g c).After-refute).learns
@@ -115,8 +114,8 @@ returns-in-Empty-clause-active g c = (refuted g (goal.at.returns-in-Empty-clause
 pub returns-then-is_err-clause-leads : goal.returns-then-is_err-clause-leads
 returns-then-is_err-clause-leads g c = (crowded g (goal.at.returns-then-is_err-clause-leads g c).After-bump_analyzed).leads
 
-pub returns-then-is_err-clause-more : goal.returns-then-is_err-clause-more
-returns-then-is_err-clause-more g c = (crowded g (goal.at.returns-then-is_err-clause-more g c).After-bump_analyzed).more
+pub returns-then-is_err-clause-drawn : goal.returns-then-is_err-clause-drawn
+returns-then-is_err-clause-drawn g c = (crowded g (goal.at.returns-then-is_err-clause-drawn g c).After-bump_analyzed).drawn
 
 pub returns-then-is_err-clause-learns : goal.returns-then-is_err-clause-learns
 returns-then-is_err-clause-learns g c = (crowded g (goal.at.returns-then-is_err-clause-learns g c).After-bump_analyzed).learns
@@ -163,8 +162,8 @@ returns-then-is_err-clause-active g c = (crowded g (goal.at.returns-then-is_err-
 pub returns-else-is_err-clause-leads : goal.returns-else-is_err-clause-leads
 returns-else-is_err-clause-leads g c = (behind g (goal.at.returns-else-is_err-clause-leads g c).After-learn_lemma).leads
 
-pub returns-else-is_err-clause-more : goal.returns-else-is_err-clause-more
-returns-else-is_err-clause-more g c = (behind g (goal.at.returns-else-is_err-clause-more g c).After-learn_lemma).more
+pub returns-else-is_err-clause-drawn : goal.returns-else-is_err-clause-drawn
+returns-else-is_err-clause-drawn g c = (behind g (goal.at.returns-else-is_err-clause-drawn g c).After-learn_lemma).drawn
 
 pub returns-else-is_err-clause-learns : goal.returns-else-is_err-clause-learns
 returns-else-is_err-clause-learns g c = (behind g (goal.at.returns-else-is_err-clause-learns g c).After-learn_lemma).learns

@@ -6,7 +6,7 @@ use Rattle.ring_run.proofs.ReducedImports.{told_listed, told_apart, told_by, bot
 use Rattle.ring_run.proofs.reduction.reduce_both.Goals as goal
 
 pub returns-in_default-clause-over : goal.returns-in_default-clause-over
-returns-in_default-clause-over g c = λ n limit below start p. out_of_memory start (g.P.Port.state c.args.port.now) n limit below p
+returns-in_default-clause-over g c = λ n start p. out_of_memory start (g.P.Port.state c.args.port.now) n p
 
 pub reduce_lemmas-requires-clause-listed : goal.reduce_lemmas-requires-clause-listed
 reduce_lemmas-requires-clause-listed g c =
@@ -35,7 +35,7 @@ pub returns-clause-ok : goal.returns-clause-ok
 returns-clause-ok g c = λ start n p. c.in-Ok-reduce_imports.ensures.ok start n (c.in-Ok-reduce_lemmas.ensures.ok start n p)
 
 pub returns-in-Err-reduce_imports-clause-over : goal.returns-in-Err-reduce_imports-clause-over
-returns-in-Err-reduce_imports-clause-over g c = λ n limit below start p. c.in-Err-reduce_imports.ensures.over n limit below start (c.in-Ok-reduce_lemmas.ensures.ok start n p)
+returns-in-Err-reduce_imports-clause-over g c = λ n start p. c.in-Err-reduce_imports.ensures.over n start (c.in-Ok-reduce_lemmas.ensures.ok start n p)
 
 pub returns-in-Err-reduce_imports-clause-nothing : goal.returns-in-Err-reduce_imports-clause-nothing
 returns-in-Err-reduce_imports-clause-nothing g c =

@@ -8,8 +8,8 @@ use Rattle.ring_run.proofs.Shrinking.{reduced_opening, reduced_quiet, reduced_la
 use Rattle.ring_run.proofs.reduction.reduce_lemmas.Goals as goal
 
 pub returns-in-Err-clause-over : goal.returns-in-Err-clause-over
-returns-in-Err-clause-over g c = λ n limit below start p.
-    refused_ends start (g.P.Port.state c.args.port.now) (g.P.Port.state c.note_reduce.new.self) n limit c.in-Err.stop below p c.in-Err.ensures.noted c.note_reduce.ensures.log c.note_reduce.ensures.port
+returns-in-Err-clause-over g c = λ n start p.
+    refused_ends start (g.P.Port.state c.args.port.now) (g.P.Port.state c.note_reduce.new.self) n c.in-Err.stop p c.in-Err.ensures.noted c.note_reduce.ensures.log c.note_reduce.ensures.port
 
 pub reduce-requires-clause-watched : goal.reduce-requires-clause-watched
 reduce-requires-clause-watched g c =
@@ -20,10 +20,10 @@ reduce-requires-clause-lemmas g c =
     noted_lemmas (g.P.Port.state c.args.port.now) (g.P.Port.state c.note_reduce.new.self) c.in-Ok.ensures.noted c.args.ring.now c.requires.listed c.requires.import.clauses
 
 pub returns-in-Err-reduce-clause-over : goal.returns-in-Err-reduce-clause-over
-returns-in-Err-reduce-clause-over g c = λ n limit below start p.
+returns-in-Err-reduce-clause-over g c = λ n start p.
     let s = g.P.Port.state c.args.port.now in
     let m = g.P.Port.state c.note_reduce.new.self in
-    cut_short_over s m (g.P.Port.state c.reduce.new.port) c.args.ring.now c.in-Ok.ensures.noted c.requires.listed c.in-Err-reduce.stop c.in-Err-reduce.ensures.reduced c.reduce.ensures.log c.reduce.ensures.port start n limit below
+    cut_short_over s m (g.P.Port.state c.reduce.new.port) c.args.ring.now c.in-Ok.ensures.noted c.requires.listed c.in-Err-reduce.stop c.in-Err-reduce.ensures.reduced c.reduce.ensures.log c.reduce.ensures.port start n
     (noted_goes_on s m c.in-Ok.ensures.noted start n p (timely_reduce s c.args.ring.now c.requires.listed c.requires.due) c.note_reduce.ensures.log c.note_reduce.ensures.port)
 
 pub returns-in-Err-reduce-clause-nothing : goal.returns-in-Err-reduce-clause-nothing

@@ -20,11 +20,11 @@ use Rattle.ring_run.specs.Ended.{ImportsBy}
 use Rattle.ring_run.proofs.InTime.{in_time_halted}
 
 pub returns-in-Err-clause-leads : goal.returns-in-Err-clause-leads
-returns-in-Err-clause-leads g c = λ limit below start p.
+returns-in-Err-clause-leads g c = λ start p.
     let u = g.P.Port.state c.shrink_due.new.port in
     let ring = c.args.ring.now in
     let count : c.shrink_due.new.ring.learned ≡ ring.learned = ap (λ (r : Ring). r.learned) c.shrink_due.ensures.same in
-    subst (λ n. ComesTo start u n limit c.in-Err.end) (sym count) (c.in-Err.ensures.over.ends ring.learned limit below start p)
+    subst (λ n. ComesTo start u n c.in-Err.end) (sym count) (c.in-Err.ensures.over.ends ring.learned start p)
 
 pub returns-in-Err-clause-polls : goal.returns-in-Err-clause-polls
 returns-in-Err-clause-polls g c =
@@ -73,14 +73,14 @@ pub returns-clause-unlooked : goal.returns-clause-unlooked
 returns-clause-unlooked g c = c.import.ensures.unlooked ∙ c.shrink_due.ensures.looks
 
 pub returns-clause-leads : goal.returns-clause-leads
-returns-clause-leads g c = λ limit below.
+returns-clause-leads g c =
     let s = g.P.Port.state c.args.port.now in
     let u = g.P.Port.state c.shrink_due.new.port in
     let ring = c.args.ring.now in
     let count : c.shrink_due.new.ring.learned ≡ ring.learned = ap (λ (r : Ring). r.learned) c.shrink_due.ensures.same in
-    compose c.import.result s u (g.P.Port.state c.import.new.port) ring c.shrink_due.new.ring c.import.new.ring limit
+    compose c.import.result s u (g.P.Port.state c.import.new.port) ring c.shrink_due.new.ring c.import.new.ring
     (λ start p. subst (GoesOn start u) (sym count) (c.in-Ok.ensures.keeps start ring.learned p))
-    (c.import.ensures.leads limit (omega (arith, below, count)))
+    c.import.ensures.leads
 
 pub returns-clause-offering : goal.returns-clause-offering
 returns-clause-offering g c = λ p.
@@ -146,3 +146,8 @@ returns-clause-halts g c =
       | inr due ↦ inl (due, c.in-Ok.ensures.due due)
     ] in
     renewing_halted s m (g.P.Port.state c.import.new.port) old ring c.import.result shrunk c.import.ensures.halts
+
+pub returns-clause-undrawn : goal.returns-clause-undrawn
+returns-clause-undrawn g c = λ on.
+    let took = c.import.ensures.took on in
+    ap (λ (x : PortState). x.found) took.polled.state ∙ ap (λ (x : PortState). x.found) took.units.state ∙ c.shrink_due.ensures.nothing.found

@@ -36,19 +36,19 @@ search-end-requires-clause-goes g c =
 pub returns-in_default-clause-ends : goal.returns-in_default-clause-ends
 returns-in_default-clause-ends g c =
     let s = g.P.Port.state c.args.port.now in
-    (subst (λ (x : PortState). ComesTo s x 0 c.args.job.now.conflicts Memory) (sym c.make_ring.ensures.same) (out_of_memory s s 0 c.args.job.now.conflicts c.requires.job.some (goes_begin s c.requires.untouched c.requires.port)))
+    (subst (λ (x : PortState). ComesTo s x 0 Memory) (sym c.make_ring.ensures.same) (out_of_memory s s 0 (goes_begin s c.requires.untouched c.requires.port)))
 
 pub returns-in_default-new-clause-ends : goal.returns-in_default-new-clause-ends
 returns-in_default-new-clause-ends g c =
     let s = g.P.Port.state c.args.port.now in
-    (subst (λ (x : PortState). ComesTo s x 0 c.args.job.now.conflicts Memory) (sym c.make_ring.ensures.same) (out_of_memory s s 0 c.args.job.now.conflicts c.requires.job.some (goes_begin s c.requires.untouched c.requires.port)))
+    (subst (λ (x : PortState). ComesTo s x 0 Memory) (sym c.make_ring.ensures.same) (out_of_memory s s 0 (goes_begin s c.requires.untouched c.requires.port)))
 
 pub returns-clause-ends : goal.returns-clause-ends
 returns-clause-ends g c =
     let u = g.P.Port.state c.search-end.new.port in
     let s = g.P.Port.state c.args.port.now in
-    subst (λ (n : ℕ). ComesTo s u n c.args.job.now.conflicts c.search-end.result) (sym c.counts_of.ensures.learned)
-    (subst (λ (x : PortState). ComesTo x u c.search-end.new.ring.learned c.args.job.now.conflicts c.search-end.result) c.make_ring.ensures.same c.search-end.ensures.ends)
+    subst (λ (n : ℕ). ComesTo s u n c.search-end.result) (sym c.counts_of.ensures.learned)
+    (subst (λ (x : PortState). ComesTo x u c.search-end.new.ring.learned c.search-end.result) c.make_ring.ensures.same c.search-end.ensures.ends)
 
 pub returns-clause-looked : goal.returns-clause-looked
 returns-clause-looked g c =
@@ -61,23 +61,23 @@ returns-clause-looked g c =
 pub search-end-requires-clause-paced : goal.search-end-requires-clause-paced
 search-end-requires-clause-paced g c =
     let odd = c.args.job.now.ring % 2 == 1 in
-    subst (λ (r : Restarting). IsPaced r c.in-Ok.ring.learned c.args.job.now.conflicts) (sym c.in-Ok.ensures.restarts)
-    (subst (λ (n : ℕ). IsPaced (begun_restarts odd) n c.args.job.now.conflicts) (sym c.in-Ok.ensures.learned) (paced_begin odd c.args.job.now.conflicts c.requires.job.some))
+    subst (λ (r : Restarting). IsPaced r c.in-Ok.ring.learned) (sym c.in-Ok.ensures.restarts)
+    (subst (λ (n : ℕ). IsPaced (begun_restarts odd) n) (sym c.in-Ok.ensures.learned) (paced_begin odd))
 
 pub returns-in_default-clause-restarted : goal.returns-in_default-clause-restarted
-returns-in_default-clause-restarted g c = restarted_none (g.P.Port.state c.args.port.now).ring c.args.job.now.conflicts c.requires.job.some
+returns-in_default-clause-restarted g c = restarted_none (g.P.Port.state c.args.port.now).ring
 
 pub returns-in_default-new-clause-restarted : goal.returns-in_default-new-clause-restarted
-returns-in_default-new-clause-restarted g c = restarted_none (g.P.Port.state c.args.port.now).ring c.args.job.now.conflicts c.requires.job.some
+returns-in_default-new-clause-restarted g c = restarted_none (g.P.Port.state c.args.port.now).ring
 
 pub returns-clause-restarted : goal.returns-clause-restarted
 returns-clause-restarted g c =
     let r = c.search-end.new.ring.restarts in
     let counts = c.counts_of.result in
-    restarted_by (g.P.Port.state c.args.port.now).ring c.args.job.now.conflicts r counts
+    restarted_by (g.P.Port.state c.args.port.now).ring r counts
     (c.search-end.ensures.odd ∙ ap (λ (x : Restarting). x.odd) c.in-Ok.ensures.restarts ∙ ap (λ (n : ℕ). n % 2 == 1) c.requires.job.ring)
     c.counts_of.ensures.kept
-    (subst (λ (n : ℕ). IsPaced r n c.args.job.now.conflicts) (sym c.counts_of.ensures.learned) c.search-end.ensures.paced)
+    (subst (λ (n : ℕ). IsPaced r n) (sym c.counts_of.ensures.learned) c.search-end.ensures.paced)
     c.counts_of.ensures.restarts
 
 pub search-end-requires-clause-offering : goal.search-end-requires-clause-offering

@@ -1,6 +1,9 @@
 use Rattle.ring_run.proofs.Offering.{offers_stay}
 use Rattle.ring_run.proofs.run.run_ring.Goals as goal
-use Rattle.std.proofs.Common.{[]}
+use Rattle.std.proofs.Common.{[], subst, sym}
+use Rattle.ring_port.specs.PortState.{PortState}
+use Rattle.ring_run.specs.Ended.{HasDrawnFor}
+use Rattle.ring_run.proofs.Tickets.{spent_exactly}
 use Rattle.ring_run.proofs.Numbering.{timely_spaced}
 
 pub returns-clause-stays : goal.returns-clause-stays
@@ -55,3 +58,14 @@ returns-clause-ran g c = record {
   ran = c.run_job-end.ensures.ran;
   set = c.set_stop.ensures.set;
 }
+
+pub returns-clause-drawn : goal.returns-clause-drawn
+returns-clause-drawn g c =
+    let n = c.run_job-end.result.1.learned in
+    subst (λ (x : PortState). HasDrawnFor x n) (sym c.set_stop.ensures.only) c.run_job-end.ensures.ends.drawn
+
+pub returns-clause-tickets : goal.returns-clause-tickets
+returns-clause-tickets g c = c.set_stop.ensures.tickets c.run_job-end.ensures.ends.tickets
+
+pub returns-clause-spent : goal.returns-clause-spent
+returns-clause-spent g c = spent_exactly (g.P.Port.state c.set_stop.new.port) c.set_stop.result (c.set_stop.ensures.tickets c.run_job-end.ensures.ends.tickets)

@@ -10,6 +10,7 @@ use Rattle.ring_run.proofs.Progress.{runs_stopped}
 use Rattle.std.proofs.Common.{◌≡◌, ◌∙◌, sym}
 use Rattle.std.specs.declared.option.Option.{Option}
 use Rattle.sat_words.specs.declared.shared.Stop.{Stop}
+use Rattle.ring_run.proofs.Tickets.{tickets_of, tickets_moved, tickets_stopped}
 use Rattle.ring_run.proofs.run.set_stop.Goals as goal
 use Rattle.ring_run.proofs.Rounds.{imports_stopped, tidy_stopped}
 use Rattle.ring_run.proofs.InTime.{reduced_stopped}
@@ -87,3 +88,13 @@ pub returns-in_default-clause-set : goal.returns-in_default-clause-set
 returns-in_default-clause-set g c =
     let s = g.P.Port.state c.args.port.now in
     subst (λ (o : Option ℕ). SetsStop s s o c.args.end c.args.end) (sym c.in_default.is ∙ c.stop_kind.ensures) (refl, refl)
+
+pub returns-in-Won-clause-tickets : goal.returns-in-Won-clause-tickets
+returns-in-Won-clause-tickets g c = λ p. tickets_moved (g.P.Port.state c.args.port.now) (g.P.Port.state c.stop.new.self) c.args.end (ap tickets_of c.in-Won.ensures.set.1) p
+
+pub returns-in-Lost-clause-tickets : goal.returns-in-Lost-clause-tickets
+returns-in-Lost-clause-tickets g c = λ p.
+    tickets_stopped (g.P.Port.state c.args.port.now) (g.P.Port.state c.stop.new.self) c.args.end c.in-Some.kind (ap tickets_of c.in-Lost.ensures.set.1) (sym c.in-Some.is ∙ c.stop_kind.ensures) p
+
+pub returns-in_default-clause-tickets : goal.returns-in_default-clause-tickets
+returns-in_default-clause-tickets g c = λ p. p

@@ -1,4 +1,4 @@
-use Rattle.std.proofs.Common.{◌≡◌, ◌+◌, ◌∙◌, [], ap, sym, subst, refl, inl, inr}
+use Rattle.std.proofs.Common.{◌≡◌, ◌+◌, ◌∙◌, [], ap, sym, subst, refl, inl, inr, arith}
 use Rattle.ring_run.proofs.Acting.{came_further}
 use Rattle.ring_run.proofs.WalkEnds.{model_by}
 use Rattle.ring_port.specs.PortState.{PortState}
@@ -22,7 +22,7 @@ use Rattle.ring_run.proofs.InTime.{sums_exact}
 use Rattle.ring_run.specs.Course.{InSearch, IsLooking, IsOffering, IsPolling, IsImporting, HasLemmas, SumsUp}
 
 pub returns-in-Finish-clause-ends : goal.returns-in-Finish-clause-ends
-returns-in-Finish-clause-ends g c = c.in-Finish.ensures.leads c.args.job.now.conflicts c.requires.below (g.P.Port.state c.args.port.now) c.requires.goes
+returns-in-Finish-clause-ends g c = c.in-Finish.ensures.leads (g.P.Port.state c.args.port.now) c.requires.goes
 
 pub returns-in-Finish-clause-looks : goal.returns-in-Finish-clause-looks
 returns-in-Finish-clause-looks g c = λ base before. c.in-Finish.ensures.looks base before
@@ -32,14 +32,14 @@ returns-in-Finish-clause-offering g c = c.import.ensures.offering c.requires.off
 
 pub walk_first-requires-clause-held : goal.walk_first-requires-clause-held
 walk_first-requires-clause-held g c =
-    let found = c.in_default.ensures.leads c.args.job.now.conflicts c.requires.below in
+    let found = c.in_default.ensures.leads in
     found.search.clauses.starts_held
 
 pub walk_first-requires-clause-decides : goal.walk_first-requires-clause-decides
 walk_first-requires-clause-decides g c =
     let s = g.P.Port.state c.args.port.now in
     let m = g.P.Port.state c.import.new.port in
-    let found = c.in_default.ensures.leads c.args.job.now.conflicts c.requires.below in
+    let found = c.in_default.ensures.leads in
     let goes = found.goes s c.requires.goes in
     decides_moved s s m c.args.ring.now.decider c.import.new.ring.decider c.requires.decides c.requires.goes.runs.stays goes.runs.stays (ap (λ (d : DeciderData). d.active) c.import.ensures.decider)
 
@@ -48,11 +48,10 @@ loop-end-init g c =
     let s = g.P.Port.state c.args.port.now in
     let m = g.P.Port.state c.import.new.port in
     let u = g.P.Port.state c.walk_first.new.port in
-    let limit = c.args.job.now.conflicts in
     let imported = c.import.new.ring in
     let walked : Ring = record imported { decider = c.walk_first.new.decider } in
     let same : m ≡ u = sym c.walk_first.ensures.same in
-    let found = c.in_default.ensures.leads limit c.requires.below in
+    let found = c.in_default.ensures.leads in
     let goes = found.goes s c.requires.goes in
     let offering = c.import.ensures.offering c.requires.offering in
     let polling = c.in_default.ensures.polls in
@@ -62,7 +61,6 @@ loop-end-init g c =
     record {
       search = search;
       goes = goes_on;
-      below = found.below;
       looks = λ base before. subst (λ (x : PortState). IsLooking base x walked) same (c.in_default.ensures.looks base before);
       decides = decides_moved s s u c.args.ring.now.decider walked.decider c.requires.decides c.requires.goes.runs.stays goes_on.runs.stays (c.walk_first.ensures.active ∙ ap (λ (d : DeciderData). d.active) c.import.ensures.decider);
       offering = subst (λ (x : PortState). IsOffering x walked) same (record { counts = offering.counts; few = offering.few });
@@ -74,8 +72,8 @@ loop-end-init g c =
           (record { ordered = lemmas.ordered; glued = lemmas.glued; noted = lemmas.noted; distinct = lemmas.distinct; member = lemmas.member; apart = lemmas.apart; count = lemmas.count; few = lemmas.few; imported = lemmas.imported; last = lemmas.last });
       came = subst (λ (x : PortState). CameTo c.args.job.now s x c.args.ring.now walked) same
           (record { imported_port = m; imported = imported; first = c.in_default.ensures.took refl; walked = walked.decider; model = c.in-Ok.model; walk = c.in-Ok.ensures.walks; states = []; turns = (refl, refl) });
-      paced = subst (λ (r : Restarting). IsPaced r imported.learned limit) (sym c.import.ensures.restarts)
-          (subst (λ n. IsPaced c.args.ring.now.restarts n limit) (sym c.import.ensures.learned) c.requires.paced);
+      paced = subst (λ (r : Restarting). IsPaced r imported.learned) (sym c.import.ensures.restarts)
+          (subst (λ n. IsPaced c.args.ring.now.restarts n) (sym c.import.ensures.learned) c.requires.paced);
       odd = ap (λ (r : Restarting). r.odd) c.import.ensures.restarts;
       vars = c.requires.vars ∙ c.requires.import.stands.vars ∙ sym goes_on.runs.stays.vars ∙ sym search.stands.vars;
       found = subst (λ (x : PortState). IsFound x c.in-Ok.model) same c.in-Ok.ensures.model;
@@ -91,8 +89,8 @@ pub loop-end-smaller : goal.loop-end-smaller
 loop-end-smaller g c =
     let found = c.in_default-search_step.ensures.leads in
     let goes = found.goes (g.P.Port.state c.args.port.now) c.loop-end.invariant.goes in
-    less_to_do (g.P.Port.state c.loop-end.port) (g.P.Port.state c.search_step.new.port) c.loop-end.ring c.search_step.new.ring c.args.job.now.conflicts c.loop-end.invariant.search found.search
-    (goes.runs.stays.vars ∙ sym c.loop-end.invariant.goes.runs.stays.vars) c.loop-end.invariant.below (c.in_default-search_step.ensures.further refl)
+    less_to_do (g.P.Port.state c.loop-end.port) (g.P.Port.state c.search_step.new.port) c.loop-end.ring c.search_step.new.ring (g.P.Port.state c.args.port.now).limit c.loop-end.invariant.search found.search
+    (goes.runs.stays.vars ∙ sym c.loop-end.invariant.goes.runs.stays.vars) (omega (arith, goes.draws.left, goes.runs.stays.limit)) (c.in_default-search_step.ensures.further refl)
 
 pub loop-end-preserved : goal.loop-end-preserved
 loop-end-preserved g c =
@@ -101,7 +99,6 @@ loop-end-preserved g c =
     record {
       search = found.search;
       goes = goes;
-      below = found.below;
       looks = λ base before. c.in_default-search_step.ensures.looks base (c.loop-end.invariant.looks base before);
       decides = decides_moved (g.P.Port.state c.args.port.now) (g.P.Port.state c.loop-end.port) (g.P.Port.state c.search_step.new.port) c.loop-end.ring.decider c.search_step.new.ring.decider c.loop-end.invariant.decides
           c.loop-end.invariant.goes.runs.stays goes.runs.stays c.search_step.ensures.active;
@@ -133,7 +130,7 @@ pub returns-in-Finish-clause-in_time : goal.returns-in-Finish-clause-in_time
 returns-in-Finish-clause-in_time g c = λ h. c.in-Finish.ensures.in_time h
 
 pub returns-in-Finish-clause-sums : goal.returns-in-Finish-clause-sums
-returns-in-Finish-clause-sums g c = subst SumsUp (sym c.import.ensures.restarts) (sums_exact c.args.ring.now.restarts c.args.ring.now.learned c.args.job.now.conflicts c.requires.paced c.requires.below)
+returns-in-Finish-clause-sums g c = subst SumsUp (sym c.import.ensures.restarts) (sums_exact c.args.ring.now.restarts c.args.ring.now.learned c.requires.paced)
 
 pub returns-in-Finish-search_step-clause-in_time : goal.returns-in-Finish-search_step-clause-in_time
 returns-in-Finish-search_step-clause-in_time g c = λ h. c.in-Finish-search_step.ensures.in_time c.loop-end.invariant.polling (c.loop-end.invariant.in_time h)
@@ -150,10 +147,9 @@ pub returns-in_default-walk_first-clause-ends : goal.returns-in_default-walk_fir
 returns-in_default-walk_first-clause-ends g c =
     let s = g.P.Port.state c.args.port.now in
     let m = g.P.Port.state c.import.new.port in
-    let limit = c.args.job.now.conflicts in
     let n = c.import.new.ring.learned in
-    let found = c.in_default.ensures.leads limit c.requires.below in
-    subst (λ (x : PortState). ComesTo s x n limit Memory) (sym c.walk_first.ensures.same) (out_of_memory s m n limit found.below (found.goes s c.requires.goes))
+    let found = c.in_default.ensures.leads in
+    subst (λ (x : PortState). ComesTo s x n Memory) (sym c.walk_first.ensures.same) (out_of_memory s m n (found.goes s c.requires.goes))
 
 pub returns-in_default-walk_first-clause-imported : goal.returns-in_default-walk_first-clause-imported
 returns-in_default-walk_first-clause-imported g c = λ start h.
@@ -169,3 +165,6 @@ returns-in_default-walk_first-clause-searched g c = inr (inl (record {
   counts = record { learned = c.import.ensures.learned; restarts = c.import.ensures.restarts; exported = c.import.ensures.offers.exported; offered = c.import.ensures.offers.offered };
   is = refl;
 }))
+
+pub search_step-requires-clause-draws : goal.search_step-requires-clause-draws
+search_step-requires-clause-draws g c = c.loop-end.invariant.goes.draws

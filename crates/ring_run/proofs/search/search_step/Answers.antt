@@ -1,4 +1,4 @@
-use Rattle.std.proofs.Common.{◌∙◌, ◌≤◌, ◌+◌, List, length, subst, sym, ap, refl, inl, arith, length-append, Contains}
+use Rattle.std.proofs.Common.{◌∙◌, ◌<◌, ◌≤◌, ◌+◌, List, length, subst, sym, ap, refl, inl, arith, length-append, Contains}
 use Rattle.sat_words.specs.declared.shared.Cref.{Cref}
 use Rattle.ring_trail.specs.declared.step.TrailStep.{TrailStep}
 use Rattle.ring_run.specs.Ended.{polls_of}
@@ -6,7 +6,7 @@ use Rattle.ring_run.specs.Course.{HasLemmas, IsOffering, IsPolling, imports_of}
 use Rattle.ring_run.proofs.Polling.{polled_over}
 use Rattle.ring_port.specs.PortState.{PortState, lits_at}
 use Rattle.watch_prop.specs.Propagation.{IsPropagated}
-use Rattle.ring_run.specs.Searching.{GoesOn}
+use Rattle.ring_run.specs.Searching.{CanDraw, GoesOn}
 use Rattle.ring_run.specs.declared.ring.Ring.{Ring}
 use Rattle.ring_run.proofs.Turning.{grown_search, compose, further_grown}
 use Rattle.ring_run.proofs.Listing.{listed_same}
@@ -35,14 +35,14 @@ decide_next-requires-clause-search g c =
 pub returns-in-Conflict-clause-leads : goal.returns-in-Conflict-clause-leads
 returns-in-Conflict-clause-leads g c =
     let between : Ring = record c.args.ring.now { trail = c.propagate.new.trail; watches = c.propagate.new.self } in
-    compose c.learn_from.result (g.P.Port.state c.args.port.now) (g.P.Port.state c.propagate.new.port) (g.P.Port.state c.learn_from.new.port) c.args.ring.now between c.learn_from.new.ring c.args.limit
+    compose c.learn_from.result (g.P.Port.state c.args.port.now) (g.P.Port.state c.propagate.new.port) (g.P.Port.state c.learn_from.new.port) c.args.ring.now between c.learn_from.new.ring
     (λ start p. subst (λ (x : PortState). GoesOn start x c.args.ring.now.learned) (sym c.propagate.ensures.same) p)
     c.learn_from.ensures.leads
 
 pub returns-in-Quiet-clause-leads : goal.returns-in-Quiet-clause-leads
 returns-in-Quiet-clause-leads g c =
     let between : Ring = record c.args.ring.now { trail = c.propagate.new.trail; watches = c.propagate.new.self } in
-    compose c.decide_next.result (g.P.Port.state c.args.port.now) (g.P.Port.state c.propagate.new.port) (g.P.Port.state c.decide_next.new.port) c.args.ring.now between c.decide_next.new.ring c.args.limit
+    compose c.decide_next.result (g.P.Port.state c.args.port.now) (g.P.Port.state c.propagate.new.port) (g.P.Port.state c.decide_next.new.port) c.args.ring.now between c.decide_next.new.ring
     (λ start p. subst (λ (x : PortState). GoesOn start x c.args.ring.now.learned) (sym c.propagate.ensures.same) p)
     c.decide_next.ensures.leads
 
@@ -73,7 +73,7 @@ returns-in-Quiet-clause-further g c = λ on.
     (let between : Ring = record c.args.ring.now { trail = c.propagate.new.trail; watches = c.propagate.new.self } in
     let grown = c.propagate.ensures.grown in
     let long = ap (λ (ss : List TrailStep). length ss) grown.steps ∙ length-append c.args.ring.now.trail.steps grown.more in
-    further_grown c.args.ring.now between c.decide_next.new.ring refl refl (omega (arith, long)) (c.decide_next.ensures.further on))
+    further_grown (g.P.Port.state c.args.port.now) (g.P.Port.state c.propagate.new.port) (g.P.Port.state c.decide_next.new.port) c.args.ring.now between c.decide_next.new.ring c.propagate.ensures.same refl (omega (arith, long)) (c.decide_next.ensures.further on))
 
 pub returns-in_default-clause-polls : goal.returns-in_default-clause-polls
 returns-in_default-clause-polls g c =
@@ -112,10 +112,10 @@ returns-in-Quiet-clause-imports g c = λ start p h.
     (subst (λ (x : PortState). HasImported start x (imports_of between)) (sym c.propagate.ensures.same) h)
 
 pub returns-in_default-clause-sums : goal.returns-in_default-clause-sums
-returns-in_default-clause-sums g c = sums_exact c.args.ring.now.restarts c.args.ring.now.learned c.args.limit c.requires.paced c.requires.below
+returns-in_default-clause-sums g c = sums_exact c.args.ring.now.restarts c.args.ring.now.learned c.requires.paced
 
 pub returns-in-Quiet-clause-sums : goal.returns-in-Quiet-clause-sums
-returns-in-Quiet-clause-sums g c = subst SumsUp (sym c.decide_next.ensures.restarts) (sums_exact c.args.ring.now.restarts c.args.ring.now.learned c.args.limit c.requires.paced c.requires.below)
+returns-in-Quiet-clause-sums g c = subst SumsUp (sym c.decide_next.ensures.restarts) (sums_exact c.args.ring.now.restarts c.args.ring.now.learned c.requires.paced)
 
 pub returns-in-Conflict-clause-took : goal.returns-in-Conflict-clause-took
 returns-in-Conflict-clause-took g c =
@@ -162,3 +162,13 @@ returns-in_default-clause-took g c = record {
 
 pub decide_next-requires-clause-found : goal.decide_next-requires-clause-found
 decide_next-requires-clause-found g c = subst (λ (x : PortState). IsFound x c.args.model.now) (sym c.propagate.ensures.same) c.requires.found
+
+pub learn_from-requires-clause-draws : goal.learn_from-requires-clause-draws
+learn_from-requires-clause-draws g c = subst (λ (x : PortState). CanDraw x c.args.ring.now.learned) (sym c.propagate.ensures.same) c.requires.draws
+
+pub decide_next-requires-clause-draws : goal.decide_next-requires-clause-draws
+decide_next-requires-clause-draws g c = subst (λ (x : PortState). CanDraw x c.args.ring.now.learned) (sym c.propagate.ensures.same) c.requires.draws
+
+pub returns-in-Conflict-clause-further : goal.returns-in-Conflict-clause-further
+returns-in-Conflict-clause-further g c = λ on.
+    inl (subst (λ (x : PortState). x.found < (g.P.Port.state c.learn_from.new.port).found) c.propagate.ensures.same (c.learn_from.ensures.drawn on))

@@ -24,7 +24,7 @@ pub write_unit-requires-clause-refused : goal.write_unit-requires-clause-refused
 write_unit-requires-clause-refused g c = c.loop-place.invariant.wrote.refused ∙ c.requires.refused
 
 pub returns-in-Err-clause-over : goal.returns-in-Err-clause-over
-returns-in-Err-clause-over g c = λ n limit below start p. c.in-Err.ensures.over n limit below start (c.loop-place.invariant.keeps start n p)
+returns-in-Err-clause-over g c = λ n start p. c.in-Err.ensures.over n start (c.loop-place.invariant.keeps start n p)
 
 pub loop-place-preserved : goal.loop-place-preserved
 loop-place-preserved g c = record {

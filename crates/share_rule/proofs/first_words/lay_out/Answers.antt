@@ -1,4 +1,4 @@
-use Rattle.std.proofs.Common.{◌∙◌, ◌++◌, ℕ, List, ap, arith}
+use Rattle.std.proofs.Common.{◌∙◌, ◌++◌, ◌+◌, ℕ, List, ap, arith}
 use Rattle.share_rule.specs.FirstWords.{start_words}
 use Rattle.share_rule.proofs.Filling.{laid_length, laid_words}
 use Rattle.share_rule.proofs.first_words.lay_out.Goals as goal
@@ -9,11 +9,11 @@ fill-requires c =
     let is = c.in_ok-holes.ensures.words ∙ ap (λ (ws : List ℕ). ws ++ start_words l.rings c.args.start.now) c.in-Ok.ensures in
     let n = laid_length l c.args.units.now c.requires.units c.args.start.now c.place_starts.new.words.items is in
     let fits = c.in_ok-holes.ensures.fits in
-    let first = c.first_cell.ensures in
+    let end = c.ticket.ensures in
     omega arith
 
 pub returns-in-Ok-fill-clause-words : goal.returns-in-Ok-fill-clause-words
 returns-in-Ok-fill-clause-words c =
     let l = c.args.layout in
     let is = c.in_ok-holes.ensures.words ∙ ap (λ (ws : List ℕ). ws ++ start_words l.rings c.args.start.now) c.in-Ok.ensures in
-    laid_words l c.args.units.now c.requires.units c.args.start.now c.place_starts.new.words.items c.fill.new.words.items c.first_cell.result c.first_cell.ensures is c.in-Ok-fill.ensures
+    laid_words l c.args.units.now c.requires.units c.args.start.now c.place_starts.new.words.items c.fill.new.words.items (c.ticket.result + 1) (ap (λ (n : ℕ). n + 1) c.ticket.ensures) is c.in-Ok-fill.ensures

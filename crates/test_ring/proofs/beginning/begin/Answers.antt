@@ -12,7 +12,6 @@ returns-clause-job g c =
       rings = sym (ap (λ (s : PortState). s.rings) made);
       vars = vars;
       start = c.from_vec-start.ensures ∙ c.in_ok-start.ensures;
-      some = c.requires.some;
     }
 
 pub returns-clause-untouched : goal.returns-clause-untouched
@@ -27,6 +26,8 @@ returns-clause-untouched g c =
       refused = ap (λ (s : PortState). s.refused) made;
       shared = ap (λ (s : PortState). s.shared) made;
       polled = ap (λ (s : PortState). s.polled) made;
+      ticket = ap (λ (s : PortState). s.ticket) made;
+      found = ap (λ (s : PortState). s.found) made;
     }
 
 pub returns-clause-held : goal.returns-clause-held

@@ -12,7 +12,6 @@ returns-clause-job g c =
       rings = sym (ap (λ (s : PortState). s.rings) over);
       vars = job.vars ∙ sym (ap (λ (s : PortState). s.vars) over);
       start = c.from_vec.ensures ∙ c.in_ok-port.ensures.start;
-      some = job.some;
     }
 
 pub returns-clause-untouched : goal.returns-clause-untouched
@@ -27,4 +26,6 @@ returns-clause-untouched g c =
       refused = ap (λ (s : PortState). s.refused) over;
       shared = ap (λ (s : PortState). s.shared) over;
       polled = ap (λ (s : PortState). s.polled) over;
+      ticket = ap (λ (s : PortState). s.ticket) over;
+      found = ap (λ (s : PortState). s.found) over;
     }

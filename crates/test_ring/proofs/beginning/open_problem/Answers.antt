@@ -27,8 +27,8 @@ returns-clause-made g c =
     let p = c.args.problem in
     let same = c.in_ok-starts.ensures ∙ c.as_slice.ensures.value in
     let out = g.L.LineOut.told c.args.lines in
-    c.in-Ok.ensures.made ∙ ap (λ (n : ℕ). begun_with n c.in_ok-starts.starts p.units.items out) c.vars-vars.ensures
-    ∙ ap (λ (ss : List (ℕ × List Literal)). begun_with p.formula.vars ss p.units.items out) same
+    c.in-Ok.ensures.made ∙ ap (λ (n : ℕ). begun_with n c.in_ok-starts.starts p.units.items out c.args.limit) c.vars-vars.ensures
+    ∙ ap (λ (ss : List (ℕ × List Literal)). begun_with p.formula.vars ss p.units.items out c.args.limit) same
 
 pub returns-clause-small : goal.returns-clause-small
 returns-clause-small g c =

@@ -1,13 +1,13 @@
-use Rattle.std.proofs.Common.{refl}
+use Rattle.std.proofs.Common.{false, refl}
 use Rattle.test_ports.proofs.Sample.{held_second}
 use Rattle.test_search.proofs.AnalysisTrails.{second_false, reasoned_third}
 use Rattle.test_search.proofs.analysis.learns_from_the_second_clause.Goals as goal
 
 pub analyze-conclusion-requires-clause-held : goal.analyze-conclusion-requires-clause-held
-analyze-conclusion-requires-clause-held g c = rw (held_second 0) refl
+analyze-conclusion-requires-clause-held g c = rw (held_second 0 false) refl
 
 pub analyze-conclusion-requires-clause-conflict : goal.analyze-conclusion-requires-clause-conflict
-analyze-conclusion-requires-clause-conflict g c = let steps = c.in_ok-trail.ensures.steps in rw (steps, held_second 0) second_false
+analyze-conclusion-requires-clause-conflict g c = let steps = c.in_ok-trail.ensures.steps in rw (steps, held_second 0 false) second_false
 
 pub analyze-conclusion-requires-clause-reasoned : goal.analyze-conclusion-requires-clause-reasoned
 analyze-conclusion-requires-clause-reasoned g c = let steps = c.in_ok-trail.ensures.steps in rw steps reasoned_third

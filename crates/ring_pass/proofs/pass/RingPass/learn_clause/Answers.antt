@@ -16,7 +16,7 @@ use Rattle.ring_pass.proofs.TurnsHere.{refused_as, ring_refused, room_refused, u
 use Rattle.ring_pass.proofs.pass.RingPass.learn_clause.Goals as goal
 
 pub add_clause-added-requires-clause-may : goal.add_clause-added-requires-clause-may
-add_clause-added-requires-clause-may g c = may_learn_here c.self.inside.pass.me.0 _ c.args.self.now c.args.lits.now c.self.view_is c.requires.fresh
+add_clause-added-requires-clause-may g c = may_learn_here c.self.inside.pass.me.0 _ c.args.self.now c.args.lits.now c.self.view_is c.requires.ticket c.requires.fresh
 
 pub add_clause-added-requires-clause-long : goal.add_clause-added-requires-clause-long
 add_clause-added-requires-clause-long g c = long_here c.requires.long c.requires.clause

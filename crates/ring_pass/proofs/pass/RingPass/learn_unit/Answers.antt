@@ -93,7 +93,7 @@ pub returns-in-Err-clause-port : goal.returns-in-Err-clause-port
 returns-in-Err-clause-port g c = ring_port (invariant_of-self-in-Err g c).0
 
 pub write_unit-written-requires-clause-may : goal.write_unit-written-requires-clause-may
-write_unit-written-requires-clause-may g c = may_learn_here c.self.inside.pass.me.0 _ c.args.self.now (c.args.lit ∷ []) c.self.view_is c.requires.fresh
+write_unit-written-requires-clause-may g c = may_learn_here c.self.inside.pass.me.0 _ c.args.self.now (c.args.lit ∷ []) c.self.view_is c.requires.ticket c.requires.fresh
 
 pub returns-in-Ok-clause-kept : goal.returns-in-Ok-clause-kept
 returns-in-Ok-clause-kept g c = unit_keeps (returns-in-Ok-clause-learned g c)

@@ -16,31 +16,31 @@ use Rattle.ring_port.proofs.plain_port.PlainPort.delete_first.Goals as goal
 pub returns-in_err-free_last-clause-port : goal.returns-in_err-free_last-clause-port
 returns-in_err-free_last-clause-port g c =
     let i = c.self.inside in
-    let p : PlainData = record { vars = i.vars; start = i.store.start; held = i.store.held; waiting = i.store.waiting; opening = i.opening.items; passed = i.passed; given = i.given.items; given_room = vec_capacity i.given - vec_len i.given; written = i.written.items; log = i.log; last = i.last; stop = i.stop; looks = i.looks; caught_up = i.caught_up } in
+    let p : PlainData = record { vars = i.vars; start = i.store.start; held = i.store.held; waiting = i.store.waiting; opening = i.opening.items; passed = i.passed; given = i.given.items; given_room = vec_capacity i.given - vec_len i.given; written = i.written.items; log = i.log; last = i.last; tickets = i.tickets; stop = i.stop; looks = i.looks; caught_up = i.caught_up } in
     subst (λ (s : StoreData). IsPort (state_of (record p { start = s.start; held = s.held; waiting = s.waiting }))) (sym c.free_last.ensures.same) (plain_port _ c.self.invariant)
 
 pub returns-in_err-make_room-clause-port : goal.returns-in_err-make_room-clause-port
 returns-in_err-make_room-clause-port g c =
     let i = c.self.inside in
-    let p : PlainData = record { vars = i.vars; start = i.store.start; held = i.store.held; waiting = i.store.waiting; opening = i.opening.items; passed = i.passed; given = i.given.items; given_room = vec_capacity i.given - vec_len i.given; written = i.written.items; log = i.log; last = i.last; stop = i.stop; looks = i.looks; caught_up = i.caught_up } in
+    let p : PlainData = record { vars = i.vars; start = i.store.start; held = i.store.held; waiting = i.store.waiting; opening = i.opening.items; passed = i.passed; given = i.given.items; given_room = vec_capacity i.given - vec_len i.given; written = i.written.items; log = i.log; last = i.last; tickets = i.tickets; stop = i.stop; looks = i.looks; caught_up = i.caught_up } in
     subst (λ (s : StoreData). IsPort (state_of (record p { start = s.start; held = s.held; waiting = s.waiting; log = c.make_room.new.self }))) (sym c.free_last.ensures.same) (plain_port _ (plain_log p c.self.invariant c.make_room.new.self i.last))
 
 pub returns-in_default-clause-port : goal.returns-in_default-clause-port
 returns-in_default-clause-port g c =
     let i = c.self.inside in
-    let p : PlainData = record { vars = i.vars; start = i.store.start; held = i.store.held; waiting = i.store.waiting; opening = i.opening.items; passed = i.passed; given = i.given.items; given_room = vec_capacity i.given - vec_len i.given; written = i.written.items; log = i.log; last = i.last; stop = i.stop; looks = i.looks; caught_up = i.caught_up } in
+    let p : PlainData = record { vars = i.vars; start = i.store.start; held = i.store.held; waiting = i.store.waiting; opening = i.opening.items; passed = i.passed; given = i.given.items; given_room = vec_capacity i.given - vec_len i.given; written = i.written.items; log = i.log; last = i.last; tickets = i.tickets; stop = i.stop; looks = i.looks; caught_up = i.caught_up } in
     subst (λ (s : StoreData). IsPort (state_of (record p { start = s.start; held = s.held; waiting = s.waiting; log = c.make_room.new.self }))) (sym c.free_last.ensures.same) (plain_port _ (plain_log p c.self.invariant c.make_room.new.self i.last))
 
 pub returns-in_err-delete-clause-port : goal.returns-in_err-delete-clause-port
 returns-in_err-delete-clause-port g c =
     let i = c.self.inside in
-    let p : PlainData = record { vars = i.vars; start = i.store.start; held = i.store.held; waiting = i.store.waiting; opening = i.opening.items; passed = i.passed; given = i.given.items; given_room = vec_capacity i.given - vec_len i.given; written = i.written.items; log = i.log; last = i.last; stop = i.stop; looks = i.looks; caught_up = i.caught_up } in
+    let p : PlainData = record { vars = i.vars; start = i.store.start; held = i.store.held; waiting = i.store.waiting; opening = i.opening.items; passed = i.passed; given = i.given.items; given_room = vec_capacity i.given - vec_len i.given; written = i.written.items; log = i.log; last = i.last; tickets = i.tickets; stop = i.stop; looks = i.looks; caught_up = i.caught_up } in
     subst (λ (s : StoreData). IsPort (state_of (record p { start = s.start; held = s.held; waiting = s.waiting; log = c.delete.new.self }))) (sym c.free_last.ensures.same) (plain_port _ (plain_log p c.self.invariant c.delete.new.self i.last))
 
 pub returns-in_err-delete-clause-log : goal.returns-in_err-delete-clause-log
 returns-in_err-delete-clause-log g c =
     let i = c.self.inside in
-    let p : PlainData = record { vars = i.vars; start = i.store.start; held = i.store.held; waiting = i.store.waiting; opening = i.opening.items; passed = i.passed; given = i.given.items; given_room = vec_capacity i.given - vec_len i.given; written = i.written.items; log = i.log; last = i.last; stop = i.stop; looks = i.looks; caught_up = i.caught_up } in
+    let p : PlainData = record { vars = i.vars; start = i.store.start; held = i.store.held; waiting = i.store.waiting; opening = i.opening.items; passed = i.passed; given = i.given.items; given_room = vec_capacity i.given - vec_len i.given; written = i.written.items; log = i.log; last = i.last; tickets = i.tickets; stop = i.stop; looks = i.looks; caught_up = i.caught_up } in
     let some : 1 ≤ length i.store.waiting = subst (λ s. 1 ≤ length s.waiting) (sym (state_is c.self.view_is)) c.requires.some in
     let x = some_waits i.store.waiting some in
     let first = first_waits i.store.waiting x.0 x.1 in
@@ -57,7 +57,7 @@ returns-in_err-delete-clause-log g c =
 pub invariant_of-self-2 : goal.invariant_of-self-2
 invariant_of-self-2 g c =
     let i = c.self.inside in
-    let p : PlainData = record { vars = i.vars; start = i.store.start; held = i.store.held; waiting = i.store.waiting; opening = i.opening.items; passed = i.passed; given = i.given.items; given_room = vec_capacity i.given - vec_len i.given; written = i.written.items; log = i.log; last = i.last; stop = i.stop; looks = i.looks; caught_up = i.caught_up } in
+    let p : PlainData = record { vars = i.vars; start = i.store.start; held = i.store.held; waiting = i.store.waiting; opening = i.opening.items; passed = i.passed; given = i.given.items; given_room = vec_capacity i.given - vec_len i.given; written = i.written.items; log = i.log; last = i.last; tickets = i.tickets; stop = i.stop; looks = i.looks; caught_up = i.caught_up } in
     let some : 1 ≤ length i.store.waiting = subst (λ s. 1 ≤ length s.waiting) (sym (state_is c.self.view_is)) c.requires.some in
     let x = some_waits i.store.waiting some in
     let first = first_waits i.store.waiting x.0 x.1 in
@@ -73,7 +73,7 @@ returns-clause-port g c = plain_port _ (invariant_of-self-2 g c)
 pub returns-clause-log : goal.returns-clause-log
 returns-clause-log g c =
     let i = c.self.inside in
-    let p : PlainData = record { vars = i.vars; start = i.store.start; held = i.store.held; waiting = i.store.waiting; opening = i.opening.items; passed = i.passed; given = i.given.items; given_room = vec_capacity i.given - vec_len i.given; written = i.written.items; log = i.log; last = i.last; stop = i.stop; looks = i.looks; caught_up = i.caught_up } in
+    let p : PlainData = record { vars = i.vars; start = i.store.start; held = i.store.held; waiting = i.store.waiting; opening = i.opening.items; passed = i.passed; given = i.given.items; given_room = vec_capacity i.given - vec_len i.given; written = i.written.items; log = i.log; last = i.last; tickets = i.tickets; stop = i.stop; looks = i.looks; caught_up = i.caught_up } in
     let some : 1 ≤ length i.store.waiting = subst (λ s. 1 ≤ length s.waiting) (sym (state_is c.self.view_is)) c.requires.some in
     let x = some_waits i.store.waiting some in
     let first = first_waits i.store.waiting x.0 x.1 in

@@ -12,27 +12,27 @@ invariant_of-result g c =
     let start : c.starts.inside.store.start ≡ placed_from 0 c.args.starts = c.starts.invariant.placed ∙ ap (placed_from 0) c.starts.view_is in
     let held : c.starts.inside.store.held ≡ placed_from 0 c.args.starts = c.starts.invariant.held ∙ start in
     let found = c.requires.opening in
-    let plain = begun_plain found.clauses c.args.vars c.args.starts c.args.units.items (g.L.LineOut.told c.args.output) (vec_capacity c.in-Ok.given - vec_len c.in-Ok.given) c.new-2.result found.journal found.over c.requires.starts_on c.requires.units_on
-    (let exact = c.in-Ok.ensures.exact in let none = c.in-Ok.ensures.len in let n = c.len.ensures in omega arith) in
+    let plain = begun_plain found.clauses c.args.vars c.args.starts c.args.units.items (g.L.LineOut.told c.args.output) c.args.limit (vec_capacity c.in-Ok.given - vec_len c.in-Ok.given) c.new-2.result found.journal found.over c.requires.starts_on c.requires.units_on
+    (let exact = c.in-Ok.ensures.exact in let none = c.in-Ok.ensures.len in let n = c.len.ensures in omega arith) (omega arith) in
     subst (λ (p : PlainData). IsPlain p)
-    (λ i. record { vars = c.args.vars; start = sym start i; held = sym held i; waiting = sym c.starts.invariant.none_waits i; opening = c.args.units.items; passed = 0; given = sym c.in-Ok.ensures.items i; given_room = vec_capacity c.in-Ok.given - vec_len c.in-Ok.given; written = sym c.new.ensures.items i; log = c.new-2.result; last = None; stop = None; looks = 0; caught_up = 0 })
+    (λ i. record { vars = c.args.vars; start = sym start i; held = sym held i; waiting = sym c.starts.invariant.none_waits i; opening = c.args.units.items; passed = 0; given = sym c.in-Ok.ensures.items i; given_room = vec_capacity c.in-Ok.given - vec_len c.in-Ok.given; written = sym c.new.ensures.items i; log = c.new-2.result; last = None; tickets = sym c.new-3.ensures i; stop = None; looks = 0; caught_up = 0 })
     plain
 
 pub returns-clause-made : goal.returns-clause-made
 returns-clause-made g c =
     let start : c.starts.inside.store.start ≡ placed_from 0 c.args.starts = c.starts.invariant.placed ∙ ap (placed_from 0) c.starts.view_is in
     let held : c.starts.inside.store.held ≡ placed_from 0 c.args.starts = c.starts.invariant.held ∙ start in
-    begun_is c.requires.opening.clauses c.args.vars c.args.starts c.args.units.items (g.L.LineOut.told c.args.output) c.starts.inside.store.start c.starts.inside.store.held c.starts.inside.store.waiting c.in-Ok.given.items c.new.result.items (vec_capacity c.in-Ok.given - vec_len c.in-Ok.given) c.new-2.result
-    start held c.starts.invariant.none_waits c.in-Ok.ensures.items c.new.ensures.items c.new-2.ensures.output c.new-2.ensures.mine c.new-2.ensures.ended c.new-2.ensures.refused
+    begun_is c.requires.opening.clauses c.args.vars c.args.starts c.args.units.items (g.L.LineOut.told c.args.output) c.args.limit c.starts.inside.store.start c.starts.inside.store.held c.starts.inside.store.waiting c.in-Ok.given.items c.new.result.items (vec_capacity c.in-Ok.given - vec_len c.in-Ok.given) c.new-2.result c.new-3.result
+    start held c.starts.invariant.none_waits c.in-Ok.ensures.items c.new.ensures.items c.new-3.ensures c.new-2.ensures.output c.new-2.ensures.mine c.new-2.ensures.ended c.new-2.ensures.refused
 
 pub returns-clause-stands : goal.returns-clause-stands
 returns-clause-stands g c = λ F J opens going.
     let is = returns-clause-made g c in
     subst (λ s. StandsOver (record { formula = F; journal = J; output = g.L.LineOut.told c.args.output }) s) (sym is)
-    (begun_stands F c.args.vars c.args.starts c.args.units.items (g.L.LineOut.told c.args.output) J opens going c.requires.unspent)
+    (begun_stands F c.args.vars c.args.starts c.args.units.items (g.L.LineOut.told c.args.output) c.args.limit J opens going c.requires.unspent)
 
 pub returns-clause-holds : goal.returns-clause-holds
-returns-clause-holds g c = subst (λ s. HoldsStart s) (sym (returns-clause-made g c)) (begun_holds c.args.vars c.args.starts c.args.units.items (g.L.LineOut.told c.args.output))
+returns-clause-holds g c = subst (λ s. HoldsStart s) (sym (returns-clause-made g c)) (begun_holds c.args.vars c.args.starts c.args.units.items (g.L.LineOut.told c.args.output) c.args.limit)
 
 pub returns-clause-port : goal.returns-clause-port
 returns-clause-port g c = plain_port _ (invariant_of-result g c)

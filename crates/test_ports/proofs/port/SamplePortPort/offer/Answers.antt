@@ -2,4 +2,4 @@ use Rattle.test_ports.proofs.Sample.{offered}
 use Rattle.test_ports.proofs.port.SamplePortPort.offer.Goals as goal
 
 pub returns-clause-offered : goal.returns-clause-offered
-returns-clause-offered c = offered c.args.self.now.stage c.args._c.address c.requires.last
+returns-clause-offered c = offered c.args.self.now.stage c.args.self.now.drawn c.args._c.address c.requires.last

@@ -7,7 +7,7 @@ use Rattle.share_core.specs.declared.stored.ClauseAt.{ClauseAt}
 use Rattle.share_core.specs.State.{State}
 use Rattle.share_core.specs.Machine.{data_of, state_of}
 use Rattle.share_core.proofs.Scans.{learn_parts}
-use Rattle.share_core.proofs.progress.Progress.may_learn.Goals as goal
+use Rattle.share_core.proofs.progress.Progress.is_fresh.Goals as goal
 
 pub returns-then-not-includes_some : goal.returns-then-not-includes_some
 returns-then-not-includes_some c =

@@ -26,12 +26,12 @@ use Rattle.share_rule.specs.Views.{only}
 use Rattle.log_book.specs.declared.turn.Turn.{Turn}
 use Rattle.log_book.specs.Turns.{WasTaken, Grown, MayAdd, sheet}
 use Rattle.ring_pass.specs.Cells.{WroteClause}
-use Rattle.ring_pass.specs.Writes.{entries_of, sheet_with, KnowsJournal}
+use Rattle.ring_pass.specs.Writes.{entries_of, own_opening, sheet_with, KnowsJournal}
 use Rattle.ring_pass.proofs.Stays.{only_is}
 use Rattle.ring_pass.proofs.TurnsHere.{HasTurn, turn_taken, failed_taken, sheet_taken, journal_known, turn_given}
 
 -- a clause may be added if it is fresh to the ring's own entries
-pub may_add : (v : View) (J : List Entry) (kind : Kind) (lits : List Literal) → KnowsJournal v J → MayAddClause v.opening (entries_of (only v)) (only v).core (only v).core.ring kind lits → MayAddClause v.opening J (only v).core (only v).core.ring kind lits
+pub may_add : (v : View) (J : List Entry) (kind : Kind) (lits : List Literal) → KnowsJournal v J → MayAddClause (own_opening v) (entries_of (only v)) (only v).core (only v).core.ring kind lits → MayAddClause v.opening J (only v).core (only v).core.ring kind lits
 may_add v J Ruler lits k h = h
 may_add v J Learn lits k h = (λ i. (only v).core.ticket && not (list_any (includes lits) (start_clauses (opening_of v.opening) ++ k.recent_is i))) ∙ h
 may_add v J Derive lits k h = h

@@ -17,7 +17,7 @@ use Rattle.share_core.specs.declared.part.CoreOpening.{CoreOpening}
 use Rattle.share_core.specs.declared.part.Part.{Part}
 use Rattle.share_core.specs.declared.part.Placed.{Placed}
 use Rattle.share_core.specs.declared.stored.ClauseAt.{ClauseAt}
-use Rattle.share_core.specs.State.{times_at, without_at}
+use Rattle.share_core.specs.State.{times_at, without_at, later}
 use Rattle.share_rule.specs.declared.note.Note.{Note}
 use Rattle.share_rule.specs.declared.note.Note.TheVariants.{Bury}
 use Rattle.share_rule.specs.declared.view.Refusal.{Refusal}
@@ -74,6 +74,17 @@ recent_past r q cs (h ∷ hs) = ap (λ (ds : List (List Literal)). fold (recent_
 
 recent_still : (r q : ℕ) (J : List Entry) (hs : List ClauseAt) → recent r (J ++ deletions_of q hs) ≡ recent r J
 recent_still r q J hs = fold-append (recent_after r) [] J (deletions_of q hs) ∙ recent_past r q (recent r J) hs
+
+recent_none : (r q n : ℕ) (hs : List ClauseAt) → recent r (drop n (deletions_of q hs)) ≡ []
+recent_none r q zero hs = recent_past r q [] hs
+recent_none r q (suc n) [] = refl
+recent_none r q (suc n) (h ∷ hs) = recent_none r q n hs
+
+-- the same of what comes after the first n entries
+recent_later : (r q n : ℕ) (J : List Entry) (hs : List ClauseAt) → recent r (drop n (J ++ deletions_of q hs)) ≡ recent r (drop n J)
+recent_later r q zero J hs = recent_still r q J hs
+recent_later r q (suc n) [] hs = recent_none r q (suc n) hs
+recent_later r q (suc n) (e ∷ J) hs = recent_later r q n J hs
 
 -- The sheet of a turn
 
@@ -237,7 +248,7 @@ module _ {S : Type 0} {d : Ghosts S} {written flushed target : S → Option (Lis
           failed = failed;
           knows = record {
             ended_is = λ q. or_second (only v).ended (ended v.opening.formula x.journal) none q;
-            recent_is = ap (recent x.part.ring) y.journal ∙ recent_still x.part.ring r J (take k (only v).core.waiting) ∙ (λ i. recent (ring i) J) ∙ knows.recent_is ∙ (λ i. recent (sym ring i) (entries_of (only v)))
+            recent_is = ap (λ (K : List Entry). recent x.part.ring (later v.opening K)) y.journal ∙ recent_later x.part.ring r (length v.opening.journal) J (take k (only v).core.waiting) ∙ (λ i. recent (ring i) (later v.opening J)) ∙ knows.recent_is ∙ (λ i. recent (sym ring i) (entries_of (only v)))
                 ∙ sym (recent_still x.part.ring r (entries_of (only v)) (take k (only v).core.waiting)) ∙ ap (recent x.part.ring) (sym y.wrote);
           };
           gave = record {

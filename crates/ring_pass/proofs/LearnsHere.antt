@@ -28,7 +28,7 @@ use Rattle.ring_pass.specs.declared.waiting.Waiting.{Waiting}
 use Rattle.ring_pass.specs.Adding.{Added, clause_with, placed_line}
 use Rattle.ring_pass.specs.RingState.{Own, port_of, holding_of, HasRoom, AreNext, CanOffer, AreShort, AreWaiting, IsBuffer}
 use Rattle.ring_pass.proofs.NextPlaces.{places_stay}
-use Rattle.ring_pass.specs.Writes.{entries_of}
+use Rattle.ring_pass.specs.Writes.{entries_of, own_opening}
 use Rattle.ring_pass.proofs.DerivesHere.{last_found}
 use Rattle.ring_pass.proofs.DropsHere.{pending_few}
 use Rattle.ring_pass.proofs.OfferedHere.{rings_few}
@@ -41,7 +41,7 @@ starts_same gs [] o = refl
 starts_same gs (h ∷ hs) o = ap (λ (cs : List (List Literal)). h.lits ∷ cs) (starts_same gs hs o)
 
 -- with a ticket, what is fresh to the port is fresh to the ring's own entries
-pub may_learn_here : (v : View) (o : Own) (s : PortState) (lits : List Literal) → port_of v o ≡ s → s.ticket ≡ true → IsFreshClause s lits → may_learn v.opening (entries_of (only v)) (only v).core (only v).core.ring lits ≡ true
+pub may_learn_here : (v : View) (o : Own) (s : PortState) (lits : List Literal) → port_of v o ≡ s → s.ticket ≡ true → IsFreshClause s lits → may_learn (own_opening v) (entries_of (only v)) (only v).core (only v).core.ring lits ≡ true
 may_learn_here v o s lits view ticket h =
     let has : (only v).core.ticket ≡ true = ap (λ (y : PortState). y.ticket) view ∙ ticket in
     let f : IsFreshClause (port_of v o) lits = subst (λ (y : PortState). IsFreshClause y lits) (sym view) h in

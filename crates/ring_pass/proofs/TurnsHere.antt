@@ -22,7 +22,7 @@ use Rattle.share_core.specs.declared.part.CoreOpening.{CoreOpening}
 use Rattle.share_core.specs.declared.part.Part.{Part}
 use Rattle.share_core.specs.declared.part.Placed.{Placed}
 use Rattle.share_core.specs.Learning.{ticket_after, MayAddUnit}
-use Rattle.share_core.specs.State.{times_at, opening_of}
+use Rattle.share_core.specs.State.{times_at, opening_of, later}
 use Rattle.share_core.proofs.Leaving.{left_sound}
 use Rattle.share_core.proofs.Plainly.{recent_own}
 use Rattle.share_rule.specs.declared.Layout.{Layout}
@@ -51,7 +51,7 @@ use Rattle.ring_port.specs.PortState.{PortState}
 use Rattle.ring_port.specs.Reducing.{NotedReduce}
 use Rattle.ring_pass.specs.declared.waiting.Waiting.{Waiting}
 use Rattle.ring_pass.specs.Refusals.{port_stop, refused_after, ended_after, answer_noted}
-use Rattle.ring_pass.specs.Writes.{entries_of, sheet_with, KnowsJournal, GaveTurn, Wrote, IsWhy, TellsFault, WroteNone}
+use Rattle.ring_pass.specs.Writes.{entries_of, own_opening, sheet_with, KnowsJournal, GaveTurn, Wrote, IsWhy, TellsFault, WroteNone}
 use Rattle.ring_pass.specs.RingState.{Own, port_with, port_of, home_of, IsOwn, IsRingPass, HasRoom, HasUnits, AreWaiting}
 use Rattle.ring_pass.proofs.PollsHere.{port_step}
 use Rattle.ring_pass.proofs.RingPorts.{part_of, rings_here}
@@ -108,7 +108,7 @@ journal_known v w J failed h s =
     let opening : v.opening ≡ s.core.opening = sym h.opening ∙ s.opening in
     record {
       ended_is = λ e. (λ i. ended (opening i).formula (same i)) ∙ k.ended_is e;
-      recent_is = ap (recent p.core.ring) same ∙ recent_own s.core p.core.ring (left_sound s.core.opening s.core s.left) k.ring ∙ ap (λ (q : Part). recent p.core.ring (map (λ (e : Placed). e.entry) q.wrote)) (sym k.part);
+      recent_is = (λ i. recent p.core.ring (later (opening i) (same i))) ∙ recent_own s.core p.core.ring (left_sound s.core.opening s.core s.left) k.ring ∙ ap (λ (q : Part). recent p.core.ring (map (λ (e : Placed). e.entry) q.wrote)) (sym k.part);
     }
 
 -- The turn is given back
@@ -352,11 +352,11 @@ wrote_none {S} {d} {written} {flushed} {target} {faults} {v} {w} {t} {t'} u e on
     }
 
 -- a reduction may be noted if the ring has learned enough
-pub may_reduce : (v : View) (J : List Entry) → KnowsJournal v J → LEARNED_PER_REDUCTION ≤ length (recent (only v).core.ring (entries_of (only v))) → LEARNED_PER_REDUCTION ≤ length (recent (only v).core.ring J)
+pub may_reduce : (v : View) (J : List Entry) → KnowsJournal v J → LEARNED_PER_REDUCTION ≤ length (recent (only v).core.ring (entries_of (only v))) → LEARNED_PER_REDUCTION ≤ length (recent (only v).core.ring (later v.opening J))
 may_reduce v J k h = subst (λ (cs : List (List Literal)). LEARNED_PER_REDUCTION ≤ length cs) (sym k.recent_is) h
 
 -- a unit may be added if it is fresh to the ring's own entries
-pub may_add_unit : (v : View) (J : List Entry) (kind : Kind) (lit : Literal) → KnowsJournal v J → MayAddUnit v.opening (entries_of (only v)) (only v).core (only v).core.ring kind (lit ∷ []) → MayAddUnit v.opening J (only v).core (only v).core.ring kind (lit ∷ [])
+pub may_add_unit : (v : View) (J : List Entry) (kind : Kind) (lit : Literal) → KnowsJournal v J → MayAddUnit (own_opening v) (entries_of (only v)) (only v).core (only v).core.ring kind (lit ∷ []) → MayAddUnit v.opening J (only v).core (only v).core.ring kind (lit ∷ [])
 may_add_unit v J Ruler lit k h = h
 may_add_unit v J Learn lit k h = (λ i. (only v).core.ticket && not (list_any (includes (lit ∷ [])) (start_clauses (opening_of v.opening) ++ k.recent_is i))) ∙ h
 may_add_unit v J Derive lit k h = h

@@ -4,6 +4,7 @@ use Rattle.rup_model.specs.declared.journal.Entry.{Entry}
 use Rattle.rup_model.specs.Journal.{ended, recent}
 use Rattle.share_core.specs.declared.part.CoreOpening.{CoreOpening}
 use Rattle.share_core.specs.declared.part.Placed.{Placed}
+use Rattle.share_core.specs.State.{later}
 use Rattle.share_rule.specs.declared.note.Note.{Note}
 use Rattle.share_rule.specs.declared.view.Refusal.{Refusal}
 use Rattle.share_rule.specs.declared.view.RingPart.{RingPart}
@@ -18,6 +19,10 @@ use Rattle.log_book.specs.Turns.{noted_as}
 abbrev pub entries_of : RingPart → List Entry
 entries_of p = map (λ (e : Placed). e.entry) p.core.wrote
 
+-- the opening as if the ring's own entries came right after it
+abbrev pub own_opening : View → CoreOpening
+own_opening v = record v.opening { journal = [] }
+
 -- the journal that the ring found, and its part
 abbrev pub sheet_with : List Entry → RingPart → Sheet
 sheet_with J p = record { journal = J; part = p.core; glues = p.glues }
@@ -25,7 +30,7 @@ sheet_with J p = record { journal = J; part = p.core; glues = p.glues }
 -- the log is ended if the ring knows it to be; what the ring learned lately is in its own entries
 pub record KnowsJournal (v : View) (J : List Entry) : Type 0 where
   pub ended_is : (only v).ended ≡ true → ended v.opening.formula J ≡ true
-  pub recent_is : recent (only v).core.ring J ≡ recent (only v).core.ring (entries_of (only v))
+  pub recent_is : recent (only v).core.ring (later v.opening J) ≡ recent (only v).core.ring (entries_of (only v))
 
 -- the ring found this journal and wrote these notes; it waits for nobody any more; it knows whether a write of the log has
 -- failed, and that stays so

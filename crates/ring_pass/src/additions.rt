@@ -7,7 +7,7 @@ ghost use Rattle.share_rule.specs.Passes.{IsPassOf};
 ghost use Rattle.share_rule.specs.Turns.{IsFree};
 ghost use Rattle.share_rule.specs.Views.{only};
 ghost use Rattle.ring_pass.specs.Adding.{Added};
-ghost use Rattle.ring_pass.specs.Writes.{entries_of, WroteNone};
+ghost use Rattle.ring_pass.specs.Writes.{entries_of, own_opening, WroteNone};
 
 use crate::cells::store_cell;
 use crate::clauses::write_clause;
@@ -33,7 +33,7 @@ pub(crate) fn add_clause<H: Wait, S: Sink>(
 ) -> Result<Cref, TurnStop>
     requires pass { IsPassOf table.now pass.old × (pass.old.me.1 ≡ []) }
     requires ring { IsFree pass.old.me.0 × (ring ≡ (only pass.old.me.0).core.ring) }
-    requires may { MayAddClause pass.old.me.0.opening (entries_of (only pass.old.me.0)) (only pass.old.me.0).core (only pass.old.me.0).core.ring kind lits.now }
+    requires may { MayAddClause (own_opening pass.old.me.0) (entries_of (only pass.old.me.0)) (only pass.old.me.0).core (only pass.old.me.0).core.ring kind lits.now }
     requires long { IsLong lits.now }
     requires follows { follows (only pass.old.me.0).core lits.now ≡ true }
     requires on { InVars pass.old.me.0.layout lits.now }

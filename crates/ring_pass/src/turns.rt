@@ -8,7 +8,7 @@ ghost use Rattle.share_rule.specs.Layout.{InVars};
 ghost use Rattle.share_rule.specs.Passes.{IsPassOf};
 ghost use Rattle.share_rule.specs.Turns.{IsFree};
 ghost use Rattle.share_rule.specs.Views.{only};
-ghost use Rattle.ring_pass.specs.Writes.{entries_of, Wrote, WroteNone};
+ghost use Rattle.ring_pass.specs.Writes.{entries_of, own_opening, Wrote, WroteNone};
 
 use io_edge::Sink;
 use log_book::{Book, TurnStop, give_turn, take_turn};
@@ -72,7 +72,7 @@ pub(crate) fn write_unit<H: Wait, S: Sink>(
 ) -> Result<u64, TurnStop>
     requires pass { IsPassOf table.now pass.old × (pass.old.me.1 ≡ []) }
     requires ring { IsFree pass.old.me.0 × (ring ≡ (only pass.old.me.0).core.ring) }
-    requires may { MayAddUnit pass.old.me.0.opening (entries_of (only pass.old.me.0)) (only pass.old.me.0).core (only pass.old.me.0).core.ring kind (lit ∷ []) }
+    requires may { MayAddUnit (own_opening pass.old.me.0) (entries_of (only pass.old.me.0)) (only pass.old.me.0).core (only pass.old.me.0).core.ring kind (lit ∷ []) }
     requires follows { follows (only pass.old.me.0).core (lit ∷ []) ≡ true }
     requires on { InVars pass.old.me.0.layout (lit ∷ []) }
     ensures pass { IsPassOf table.now pass.new × (pass.new.id ≡ pass.old.id) × (pass.new.me.1 ≡ []) }

@@ -213,12 +213,16 @@ unit_told F J0 l i =
     let t = filter_map_In only_literal (F ++ added J0) l (unique_In (filter_map only_literal (F ++ added J0)) l i) in
     any_In (same_set (l ∷ [])) (F ++ added J0) t.0 t.1 (only_same t.0 l t.2)
 
+-- each under a number of its own
+pub program_numbers : (F : List (List Literal)) (J0 : List Entry) → IsDistinct nat_eq (map (λ s. s.number) (program_opening F J0).starts)
+program_numbers F J0 = numbers_distinct (book F J0) 1 (length (F ++ added J0))
+
 pub program_opens : (F : List (List Literal)) (J0 : List Entry) → IsRulersPart F J0 → IsOpening F (program_opening F J0)
 program_opens F J0 r = record {
   rulers_part = r;
   starts = All_from_In (IsStart (book F J0)) (program_opening F J0).starts (λ s i.
       (let t = filter_map_In (start_at (book F J0)) (range_with_len 1 (length (F ++ added J0))) s i in is_start (book F J0) t.0 s (rulers_ordered F J0 r.rulers) t.2));
-  numbers = numbers_distinct (book F J0) 1 (length (F ++ added J0));
+  numbers = program_numbers F J0;
   told = All_from_In (λ (l : Literal). is_told F J0 l ≡ true) (program_opening F J0).units (unit_told F J0);
   distinct = unique_distinct (filter_map only_literal (F ++ added J0));
 }

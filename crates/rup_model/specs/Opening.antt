@@ -75,6 +75,17 @@ pub record IsOpening (F : List (List Literal)) (o : Opening) : Type 0 where
   pub told : All (λ l. is_told F o.journal l ≡ true) o.units
   pub distinct : distinct_lits o.units ≡ true
 
+-- after a log that fits, whose lines are valid and to which the empty clause was not added, whoever wrote it; long clauses that are
+-- alive after it, each under a number of its own; units that are in the formula or were added, none twice
+pub record OpensAfter (F : List (List Literal)) (o : Opening) : Type 0 where
+  pub fits : Fits F o.journal
+  pub accepted : Accepted F (lines F o.journal)
+  pub going : list_any is_empty (added o.journal) ≡ false
+  pub starts : All (IsStart (book F o.journal)) o.starts
+  pub numbers : IsDistinct nat_eq (map (λ s. s.number) o.starts)
+  pub told : All (λ l. is_told F o.journal l ≡ true) o.units
+  pub distinct : distinct_lits o.units ≡ true
+
 -- The program's opening
 
 -- the clause under this number, if it has two literals or more and no opposites

@@ -17,7 +17,7 @@ use Rattle.share_core.specs.declared.event.TheConstants.{MAX_SHARES}
 use Rattle.share_core.specs.declared.event.Event.{Event}
 use Rattle.share_core.specs.declared.event.Event.TheVariants.{Grant, TakeTurn, GiveTurn, AddClause, AddUnit, AddEmpty, Reduce, OpenCell, Read, Share, DropCount, Bury, Put, Get, Publish, See, Stop, Draw}
 use Rattle.share_core.specs.declared.stored.ClauseAt.{ClauseAt}
-use Rattle.share_core.specs.State.{times_at, State}
+use Rattle.share_core.specs.State.{times_at, later, State}
 use Rattle.share_core.specs.Learning.{MayAddClause, MayAddUnit}
 use Rattle.share_core.specs.Enabled.{Writes, IsEnabled}
 use Rattle.share_core.specs.Machine.{has_at}
@@ -122,7 +122,7 @@ decides c (AddClause r kind lits a) = other _ _ _
     (λ h. ((h.0, h.1), (h.2, (h.3, (h.4, (h.5, h.6))))))
 decides c (AddUnit r kind lit) = other _ _ _ (both _ _ _ _ (writing c r) (both _ _ _ _ (telling c r kind (lit ∷ [])) (itself _))) (λ h. (h.0.0, h.0.1, h.1.0, h.1.1)) (λ h. ((h.0, h.1), (h.2, h.3)))
 decides c (AddEmpty r) = other _ _ _ (both _ _ _ _ (writing c r) (itself _)) (λ h. (h.0.0, h.0.1, h.1)) (λ h. ((h.0, h.1), h.2))
-decides c (Reduce r) = other _ _ _ (both _ _ _ _ (writing c r) (at_most LEARNED_PER_REDUCTION (length (recent r c.journal)))) (λ h. (h.0.0, h.0.1, h.1)) (λ h. ((h.0, h.1), h.2))
+decides c (Reduce r) = other _ _ _ (both _ _ _ _ (writing c r) (at_most LEARNED_PER_REDUCTION (length (recent r (later c.opening c.journal))))) (λ h. (h.0.0, h.0.1, h.1)) (λ h. ((h.0, h.1), h.2))
 decides c (OpenCell r a) = both _ _ _ _ (below r c.opening.rings) (stands a (c.part r).making)
 decides c (Read r a) = both _ _ _ _ (below r c.opening.rings) (stands a (c.part r).held)
 decides c (Share r a) = other _ _ _ (both _ _ _ _ (both _ _ _ _ (below r c.opening.rings) (stands a (c.part r).held)) (below (c.part r).shared MAX_SHARES)) (λ h. (h.0.0, h.0.1, h.1)) (λ h. ((h.0, h.1), h.2))

@@ -8,7 +8,8 @@ use Rattle.rup_model.specs.Basics.{put, one_if}
 use Rattle.rup_model.specs.Rup.{rup}
 use Rattle.rup_model.specs.Log.{alive}
 use Rattle.rup_model.specs.Journal.{ring_of, Book, book_after, book, lines, LogSound, is_ring, IsFresh, IsSpaced}
-use Rattle.rup_model.specs.Opening.{IsLong}
+use Rattle.std.proofs.lemmas.List.{drop-append-le}
+use Rattle.rup_model.specs.Opening.{IsLong, start_clauses}
 use Rattle.rup_model.proofs.Lists.{In, In_has, In_append, In_append_left, map_In}
 use Rattle.rup_model.proofs.Sums.{at_put, put_here, put_else}
 use Rattle.rup_model.proofs.Sequences.{each_last}
@@ -21,7 +22,7 @@ use Rattle.share_core.specs.declared.event.TheConstants.{MAX_SHARES}
 use Rattle.share_core.specs.declared.event.Stop.{Stop}
 use Rattle.share_core.specs.declared.stored.ClauseAt.{ClauseAt}
 use Rattle.share_core.specs.declared.stored.Cell.{Cell}
-use Rattle.share_core.specs.State.{times_at, CoreOpening, Part, State, count_at, number_at, lits_at, maker_at, clause_at}
+use Rattle.share_core.specs.State.{times_at, CoreOpening, opening_of, later, Part, State, count_at, number_at, lits_at, maker_at, clause_at}
 use Rattle.share_core.specs.Learning.{known_clauses, follows}
 use Rattle.share_core.specs.Events.{noted}
 use Rattle.share_core.specs.Sound.{idle_at, Counts, IsCopy, CopiesSound, CellsSound, SlotsSound, JournalSound, FreshSound, UnitsSound, StopSound, Sound}
@@ -57,11 +58,17 @@ journal_more o J e h log room lt = record {
   begins = let b = h.begins in (b.0 ++ e ∷ [], ap (λ (K : List Entry). K ++ e ∷ []) b.1 ∙ append_assoc o.journal b.0 (e ∷ []), all_last (λ (x : Entry). ring_of x < o.rings) b.0 e b.2 lt);
 }
 
-pub fresh_more : (starts : List (List Literal)) (J : List Entry) (e : Entry) → FreshSound starts J → IsFresh starts J e → IsSpaced J e → FreshSound starts (J ++ e ∷ [])
-fresh_more starts J e h f s = record {
+fresh_last : (starts : List (List Literal)) (J : List Entry) (e : Entry) → FreshSound starts J → IsFresh starts J e → IsSpaced J e → FreshSound starts (J ++ e ∷ [])
+fresh_last starts J e h f s = record {
   fresh = each_last (IsFresh starts) [] J e h.fresh f;
   spaced = each_last IsSpaced [] J e h.spaced s;
 }
+
+pub later_more : (o : CoreOpening) (J : List Entry) (e : Entry) → JournalSound o J → later o (J ++ e ∷ []) ≡ later o J ++ e ∷ []
+later_more o J e h = drop-append-le (length o.journal) J (e ∷ []) (let n = ap (λ (K : List Entry). length K) h.begins.1 in let k = length-append o.journal h.begins.0 in omega arith)
+
+pub fresh_more : (o : CoreOpening) (J : List Entry) (e : Entry) → JournalSound o J → FreshSound (start_clauses (opening_of o)) (later o J) → IsFresh (start_clauses (opening_of o)) (later o J) e → IsSpaced (later o J) e → FreshSound (start_clauses (opening_of o)) (later o (J ++ e ∷ []))
+fresh_more o J e log h f s = subst (FreshSound (start_clauses (opening_of o))) (sym (later_more o J e log)) (fresh_last (start_clauses (opening_of o)) (later o J) e h f s)
 
 units_more : (F : List (List Literal)) (J : List Entry) (units : List Literal) (part : ℕ → Part) (e : Entry) → UnitsSound F J units part → UnitsSound F (J ++ e ∷ []) units part
 units_more F J units part e h = record { told = λ l i. told_more F J (e ∷ []) l (h.told l i); distinct = h.distinct; seen = h.seen }

@@ -1,7 +1,8 @@
 -- An opening is sound, and so is what enabled events leave.
-use Rattle.std.proofs.Common.{◌≡◌, ◌≢◌, ℕ, ◌+◌, ◌*◌, ◌≤◌, ◌==◌, nat_eq, Bool, true, false, ◌||◌, cond, List, [], ◌∷◌, ◌++◌, map, fold, All, Option, Some, None, refl, sym, ap, ◌∙◌, subst, inl, inr, ⊎_elim, arith, eq-eqb, ne_eqb, true≢false, append-nil, append_assoc}
+use Rattle.std.proofs.Common.{◌≡◌, ◌≢◌, ℕ, ◌+◌, ◌*◌, ◌≤◌, ◌==◌, nat_eq, Bool, true, false, ◌||◌, cond, List, [], ◌∷◌, ◌++◌, map, length, fold, All, Option, Some, None, refl, sym, ap, ◌∙◌, subst, inl, inr, ⊎_elim, arith, eq-eqb, ne_eqb, true≢false, append-nil, append_assoc}
 use Rattle.std.specs.List.{list_any, AllByRecursion, Contains, IsDistinct}
 use Rattle.std.proofs.lemmas.Bool.{and_parts}
+use Rattle.std.proofs.lemmas.List.{drop_all}
 use Rattle.std.proofs.lemmas.List.Folds.{list_any-append}
 use mathlib.Core.Logic.{dite}
 use native.Mathlib.Decide.{ℕ_discrete}
@@ -86,16 +87,6 @@ own_number (u ∷ ss) s t once (inr i) (inr j) e = own_number ss s t once.1 i j 
 
 -- The ruler's part
 
-rulers_fresh : (starts : List (List Literal)) (before : List Entry) (e : Entry) → is_rulers e ≡ true → IsFresh starts before e
-rulers_fresh starts before (Add x) h = λ l. absurd (true≢false (sym l ∙ rulers_kind x h))
-rulers_fresh starts before (Del r n) h = tt
-rulers_fresh starts before (Reduce r) h = tt
-
-rulers_spaced : (before : List Entry) (e : Entry) → is_rulers e ≡ true → IsSpaced before e
-rulers_spaced before (Add x) h = tt
-rulers_spaced before (Del r n) h = tt
-rulers_spaced before (Reduce r) h = absurd (true≢false (sym (and_parts (r == RULER_RING) false h).1))
-
 -- if the empty clause is never added, nothing stands after it
 never_empty : (before J : List Entry) → list_any is_empty (added (before ++ J)) ≡ false → EachAfter (λ b e. list_any is_empty (added b) ≡ false) before J
 never_empty before [] h = tt
@@ -153,7 +144,7 @@ module _ (o : CoreOpening) (op : IsCoreOpening o) where
   opened_sound =
       let b : Book = book o.formula o.journal in
       let none : Option Stop = None in
-      let ruler = op.opens.rulers_part in
+      let ruler = op.opens in
       record {
         opens = op;
         counts = counts_open;
@@ -178,8 +169,8 @@ module _ (o : CoreOpening) (op : IsCoreOpening o) where
         };
         entries = ([], sym (append-nil o.journal), λ r lt. refl);
         freshness = record {
-          fresh = rulers_each (IsFresh (start_clauses (opening_of o))) (rulers_fresh (start_clauses (opening_of o))) [] o.journal ruler.rulers;
-          spaced = rulers_each IsSpaced rulers_spaced [] o.journal ruler.rulers;
+          fresh = subst (EachAfter (IsFresh (start_clauses (opening_of o))) []) (sym (drop_all (length o.journal) o.journal (omega arith))) tt;
+          spaced = subst (EachAfter IsSpaced []) (sym (drop_all (length o.journal) o.journal (omega arith))) tt;
         };
         units = record { told = λ l h. all_in (λ (q : Literal). is_told o.formula o.journal q ≡ true) o.units l (has_In o.units l h) op.opens.told; distinct = op.opens.distinct; seen = λ r. (o.units, refl) };
         turns = λ r is. absurd (none_some r is);

@@ -13,12 +13,12 @@ use Rattle.rup_model.specs.Basics.{put, one_if}
 use Rattle.rup_model.specs.Journal.{additions, deletion, Book, formula_book, spelled, book_after, book, IsFit, Fits, ring_of, is_learn, learned, is_ring, recent_after, recent}
 use Rattle.rup_model.proofs.Lists.{In, In_Contains}
 use Rattle.rup_model.proofs.Additions.{learned-append}
-use Rattle.rup_model.proofs.Parts.{rulers_recent}
+use Rattle.std.proofs.lemmas.List.{drop_all, drop-append-le}
 use Rattle.rup_model.proofs.Sums.{at_put, put_else}
 use Rattle.rup_model.proofs.Sequences.{EachState, to_states}
 use Rattle.rup_model.proofs.Numbers.{Matches, clause_below, matches_step, formula_matches}
 use Rattle.share_core.specs.declared.stored.Cell.{Cell}
-use Rattle.share_core.specs.State.{Placed, State, count_at, maker_at}
+use Rattle.share_core.specs.State.{Placed, later, State, count_at, maker_at}
 use Rattle.share_core.specs.Sound.{idle_at, placed, Sound}
 use Rattle.share_core.specs.Readable.{Stands, Plain}
 use Rattle.share_core.proofs.Counting.{none_some, some_same, made_by, idle_open, idle_made, held_cell, waiting_cell, slot_cell}
@@ -122,11 +122,9 @@ recent_from r i (e ∷ J) cs = by (ring_of e == r) refl (recent_from r (i + 1) J
     by true q h = h
     by false q h = h ∙ (λ j. fold (recent_after r) (other_entry r e cs q j) (map (λ (p : Placed). p.entry) (placed r (i + 1) J)))
 
-pub recent_own : (c : State) (r : ℕ) → Sound c → r < c.opening.rings → recent r c.journal ≡ recent r (map (λ (p : Placed). p.entry) (c.part r).wrote)
+pub recent_own : (c : State) (r : ℕ) → Sound c → r < c.opening.rings → recent r (later c.opening c.journal) ≡ recent r (map (λ (p : Placed). p.entry) (c.part r).wrote)
 recent_own c r s lt =
     let K : List Entry = s.entries.0 in
-    ap (recent r) s.entries.1
-    ∙ fold-append (recent_after r) [] c.opening.journal K
-    ∙ ap (λ (cs : List (List Literal)). fold (recent_after r) cs K) (rulers_recent r c.opening.journal s.opens.opens.rulers_part.rulers)
+    ap (recent r) (ap (later c.opening) s.entries.1 ∙ drop-append-le (length c.opening.journal) c.opening.journal K (omega arith) ∙ ap (λ (L : List Entry). L ++ K) (drop_all (length c.opening.journal) c.opening.journal (omega arith)))
     ∙ recent_from r (length c.opening.journal) K []
     ∙ ap (λ (w : List Placed). recent r (map (λ (p : Placed). p.entry) w)) (sym (s.entries.2 r lt))

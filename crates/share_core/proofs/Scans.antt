@@ -11,7 +11,7 @@ use Rattle.rup_model.specs.Journal.{added, additions, Book, formula_book, book_a
 use Rattle.rup_model.proofs.Sequences.{fold_last}
 use Rattle.rup_model.specs.Opening.{Start, start_clauses}
 use Rattle.share_core.specs.declared.stored.ClauseAt.{ClauseAt}
-use Rattle.share_core.specs.State.{CoreOpening, opening_of, Part}
+use Rattle.share_core.specs.State.{CoreOpening, opening_of, later, Part}
 use Rattle.share_core.specs.Machine.{adds}
 
 -- the items up to the next
@@ -69,8 +69,8 @@ next_few F J = from (formula_book F) J
     from b (Reduce q ∷ K) = let r = from (book_after b (Reduce q)) K in omega arith
 
 -- what may be learned includes neither a start clause nor what the ring learned
-pub learn_parts : (o : CoreOpening) (J : List Entry) (p : Part) (r : ℕ) (lits : List Literal) → fresh (start_clauses (opening_of o)) J r lits ≡ not (list_any (λ (h : ClauseAt). includes lits h.lits) o.starts || list_any (includes lits) (recent r J))
-learn_parts o J p r lits = ap not (list_any-append (includes lits) (start_clauses (opening_of o)) (recent r J) ∙ ap (λ (b : Bool). b || list_any (includes lits) (recent r J)) (each o.starts))
+pub learn_parts : (o : CoreOpening) (J : List Entry) (p : Part) (r : ℕ) (lits : List Literal) → fresh (start_clauses (opening_of o)) (later o J) r lits ≡ not (list_any (λ (h : ClauseAt). includes lits h.lits) o.starts || list_any (includes lits) (recent r (later o J)))
+learn_parts o J p r lits = ap not (list_any-append (includes lits) (start_clauses (opening_of o)) (recent r (later o J)) ∙ ap (λ (b : Bool). b || list_any (includes lits) (recent r (later o J))) (each o.starts))
   where
     each : (ss : List ClauseAt) → list_any (includes lits) (map (λ (s : Start). s.lits) (map (λ (s : ClauseAt). record { number = s.number; lits = s.lits }) ss)) ≡ list_any (λ (h : ClauseAt). includes lits h.lits) ss
     each [] = refl

@@ -89,7 +89,7 @@ module _ (c : State) (s : Sound c) where
       (t.0, t.1, t.2, t.3, some_same t.1.lits lits (sym (s.cells.alive t.0 t.1 t.2) ∙ ap (book F c.journal).clause t.3 ∙ is))
 
   pub start_below : (h : ClauseAt) → In h c.opening.starts → h.number < (book F J0).next
-  start_below h i = clause_below (book F J0) (alive_lines F (lines F J0)) h.number h.lits (journal_matches F J0 s.opens.opens.rulers_part.fits) (start_is c.opening s.opens h i).alive
+  start_below h i = clause_below (book F J0) (alive_lines F (lines F J0)) h.number h.lits (journal_matches F J0 s.opens.opens.fits) (start_is c.opening s.opens h i).alive
 
   pub next_more : (K : List Entry) → c.journal ≡ J0 ++ K → (book F J0).next ≤ (book F c.journal).next
   next_more K e = subst (λ (J : List Entry). (book F J0).next ≤ (book F J).next) (sym e)

@@ -13,7 +13,7 @@ use Rattle.share_core.specs.declared.event.TheConstants.{MAX_SHARES}
 use Rattle.share_core.specs.declared.event.Event.{Event}
 use Rattle.share_core.specs.declared.event.Event.TheVariants.{Grant, TakeTurn, GiveTurn, AddClause, AddUnit, AddEmpty, Reduce, OpenCell, Read, Share, DropCount, Bury, Put, Get, Publish, See, Stop, Draw}
 use Rattle.share_core.specs.declared.stored.Cell.{Cell}
-use Rattle.share_core.specs.State.{times_at, CoreOpening, Part, State}
+use Rattle.share_core.specs.State.{times_at, CoreOpening, later, Part, State}
 use Rattle.share_core.specs.Learning.{follows, MayAddClause, MayAddUnit}
 use Rattle.share_core.specs.Enabled.{Writes, IsEnabled}
 use Rattle.share_core.specs.Events.{with_count, after}
@@ -121,7 +121,7 @@ stays c d (AddUnit r kind l) o J u t p g f h = (
   still_follows c d o J u t r p (l ∷ []) h.3,
 )
 stays c d (AddEmpty r) o J u t p g f h = (still_ring c d o J u t r p r h.0, still_writes c d o J u t r p h.1, still_follows c d o J u t r p [] h.2)
-stays c d (Reduce r) o J u t p g f h = (still_ring c d o J u t r p r h.0, still_writes c d o J u t r p h.1, subst (λ (K : List Entry). LEARNED_PER_REDUCTION ≤ length (recent r K)) (sym J) h.2)
+stays c d (Reduce r) o J u t p g f h = (still_ring c d o J u t r p r h.0, still_writes c d o J u t r p h.1, of_three c d o J u t r p (λ (w : CoreOpening) (K : List Entry) (x : Part). LEARNED_PER_REDUCTION ≤ length (recent r (later w K))) h.2)
 stays c d (OpenCell r a) o J u t p g f h = (still_ring c d o J u t r p r h.0, of_part c d o J u t r p (λ (x : Part). 0 < times_at a x.making) h.1)
 stays c d (Read r a) o J u t p g f h = (still_ring c d o J u t r p r h.0, still_held c d o J u t r p a h.1)
 stays c d (Share r a) o J u t p g f h = (still_ring c d o J u t r p r h.0, still_held c d o J u t r p a h.1, of_part c d o J u t r p (λ (x : Part). x.shared < MAX_SHARES) h.2)

@@ -19,7 +19,7 @@ use Rattle.rup_model.proofs.JournalSteps.{not_added, log_adds, log_reduces}
 use Rattle.share_core.specs.declared.event.Event.TheVariants.{AddClause, AddUnit, AddEmpty, Reduce}
 use Rattle.share_core.specs.declared.stored.ClauseAt.{ClauseAt}
 use Rattle.share_core.specs.declared.stored.Cell.{Cell}
-use Rattle.share_core.specs.State.{times_at, opening_of, Part, State, count_at, maker_at}
+use Rattle.share_core.specs.State.{times_at, opening_of, later, Part, State, count_at, maker_at}
 use Rattle.share_core.specs.Learning.{follows, may_learn, MayAddClause, MayAddUnit, ticket_after, after_learn}
 use Rattle.share_core.specs.Enabled.{Writes, IsEnabled}
 use Rattle.share_core.specs.Events.{addition_of, wrote_part, made_part, written, after}
@@ -48,11 +48,11 @@ may_fresh_unit c r Derive lits may is = absurd may
 may_fresh_unit c r UnitLine lits may is = absurd (true≢false (sym is))
 
 -- with a ticket, and it is fresh
-may_new : (c : State) (r : ℕ) (lits : List Literal) → may_learn c.opening c.journal (c.part r) r lits ≡ true → fresh (start_clauses (opening_of c.opening)) c.journal r lits ≡ true
-may_new c r lits h = (and_parts (c.part r).ticket (fresh (start_clauses (opening_of c.opening)) c.journal r lits) h).1
+may_new : (c : State) (r : ℕ) (lits : List Literal) → may_learn c.opening c.journal (c.part r) r lits ≡ true → fresh (start_clauses (opening_of c.opening)) (later c.opening c.journal) r lits ≡ true
+may_new c r lits h = (and_parts (c.part r).ticket (fresh (start_clauses (opening_of c.opening)) (later c.opening c.journal) r lits) h).1
 
 may_spend : (c : State) (r : ℕ) (lits : List Literal) → may_learn c.opening c.journal (c.part r) r lits ≡ true → (c.part r).ticket ≡ true
-may_spend c r lits h = (and_parts (c.part r).ticket (fresh (start_clauses (opening_of c.opening)) c.journal r lits) h).0
+may_spend c r lits h = (and_parts (c.part r).ticket (fresh (start_clauses (opening_of c.opening)) (later c.opening c.journal) r lits) h).0
 
 -- Spelling
 
@@ -69,7 +69,7 @@ add_low b x n lt = put_else b.clause b.next _ n (λ e. omega arith)
 writes : (c : State) (r : ℕ) (t : Bool) (e : Entry) → Sound c → r < c.opening.rings → ring_of e ≡ r → JournalSound c.opening (c.journal ++ e ∷ [])
     → ((n : ℕ) → n < (book c.opening.formula c.journal).next → (book_after (book c.opening.formula c.journal) e).clause n ≡ (book c.opening.formula c.journal).clause n)
     → ((n : ℕ) (k : List Literal) → two_or_more k ≡ true → (book_after (book c.opening.formula c.journal) e).clause n ≡ Some k → (book c.opening.formula c.journal).clause n ≡ Some k)
-    → IsFresh (start_clauses (opening_of c.opening)) c.journal e → IsSpaced c.journal e
+    → IsFresh (start_clauses (opening_of c.opening)) (later c.opening c.journal) e → IsSpaced (later c.opening c.journal) e
     → TicketsSound c.opening c.drawn (put c.part r (wrote_part (length c.journal) e (record (c.part r) { ticket = t }))) → Sound (written c r (record (c.part r) { ticket = t }) e)
 writes c r t e s lt own log low few fresh spaced tickets =
     let d : State = written c r (record (c.part r) { ticket = t }) e in
@@ -84,7 +84,7 @@ writes c r t e s lt own log low few fresh spaced tickets =
       slots = part_slots c d r p s refl refl refl;
       log = log;
       entries = owned_more c.opening c r e p s.entries own refl;
-      freshness = fresh_more (start_clauses (opening_of c.opening)) c.journal e s.freshness fresh spaced;
+      freshness = fresh_more c.opening c.journal e s.log s.freshness fresh spaced;
       units = units_written c r p e s (s.units.seen r);
       turns = s.turns;
       stops = stop_more c.opening.formula c.journal c.opening.rings c.stop e s.stops;
@@ -178,7 +178,7 @@ adds_clause c r kind lits a s e =
       slots = slots_kept c.opening c d s.slots refl (puts_same c r p refl);
       log = added c r kind lits s lt w e.6;
       entries = owned_more c.opening c r (Add x) p s.entries refl refl;
-      freshness = fresh_more (start_clauses (opening_of c.opening)) J (Add x) s.freshness (λ is. may_new c r lits (may_fresh c r kind lits e.2 is)) tt;
+      freshness = fresh_more c.opening J (Add x) s.log s.freshness (λ is. may_new c r lits (may_fresh c r kind lits e.2 is)) tt;
       units = units_written c r p (Add x) s (s.units.seen r);
       turns = s.turns;
       stops = stop_more F J c.opening.rings c.stop (Add x) s.stops;

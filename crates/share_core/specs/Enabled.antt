@@ -9,7 +9,7 @@ use Rattle.sat_words.specs.declared.shared.TheConstants.{MAX_ENTRIES}
 use Rattle.share_core.specs.declared.event.TheConstants.{MAX_SHARES}
 use Rattle.share_core.specs.declared.event.Event.{Event}
 use Rattle.share_core.specs.declared.event.Event.TheVariants.{Grant, TakeTurn, GiveTurn, AddClause, AddUnit, AddEmpty, Reduce, OpenCell, Read, Share, DropCount, Bury, Put, Get, Publish, See, Stop, Draw}
-use Rattle.share_core.specs.State.{times_at, State}
+use Rattle.share_core.specs.State.{times_at, later, State}
 use Rattle.share_core.specs.Learning.{follows, MayAddClause, MayAddUnit}
 use Rattle.share_core.specs.Events.{after}
 
@@ -45,7 +45,7 @@ IsEnabled c (AddClause r kind lits a) =
 IsEnabled c (AddUnit r kind lit) = IsRing c r × Writes c r × MayAddUnit c.opening c.journal (c.part r) r kind (lit ∷ []) × (follows (c.part r) (lit ∷ []) ≡ true)
 IsEnabled c (AddEmpty r) = IsRing c r × Writes c r × (follows (c.part r) [] ≡ true)
 -- the ring has learned enough since it last reduced
-IsEnabled c (Reduce r) = IsRing c r × Writes c r × (LEARNED_PER_REDUCTION ≤ length (recent r c.journal))
+IsEnabled c (Reduce r) = IsRing c r × Writes c r × (LEARNED_PER_REDUCTION ≤ length (recent r (later c.opening c.journal)))
 -- the ring builds the cell
 IsEnabled c (OpenCell r a) = IsRing c r × (0 < times_at a (c.part r).making)
 IsEnabled c (Read r a) = IsRing c r × Holds c r a

@@ -11,7 +11,7 @@ use Rattle.sat_words.specs.declared.shared.TheConstants.{MAX_ENTRIES}
 use Rattle.share_core.specs.declared.event.TheConstants.{MAX_SHARES}
 use Rattle.share_core.specs.declared.event.Event.{Event}
 use Rattle.share_core.specs.declared.event.Event.TheVariants.{Grant, TakeTurn, GiveTurn, AddClause, AddUnit, AddEmpty, Reduce, OpenCell, Read, Share, DropCount, Bury, Put, Get, Publish, See, Stop, Draw}
-use Rattle.share_core.specs.State.{State}
+use Rattle.share_core.specs.State.{later, State}
 use Rattle.share_core.specs.Learning.{follows, may_learn, may_derive}
 use Rattle.share_core.specs.Machine.{has_at}
 
@@ -53,7 +53,7 @@ is_enabled c (GiveTurn r) = nat_lt r c.opening.rings && is_ring r c.turn
 is_enabled c (AddClause r kind lits a) = writes c r && (may_add c r kind lits && (is_long lits && (is_none (c.cell a) && (not (a == 0) && follows (c.part r) lits))))
 is_enabled c (AddUnit r kind lit) = writes c r && (may_tell c r kind (lit ∷ []) && follows (c.part r) (lit ∷ []))
 is_enabled c (AddEmpty r) = writes c r && follows (c.part r) []
-is_enabled c (Reduce r) = writes c r && nat_le LEARNED_PER_REDUCTION (length (recent r c.journal))
+is_enabled c (Reduce r) = writes c r && nat_le LEARNED_PER_REDUCTION (length (recent r (later c.opening c.journal)))
 is_enabled c (OpenCell r a) = nat_lt r c.opening.rings && has_at a (c.part r).making
 is_enabled c (Read r a) = holds c r a
 is_enabled c (Share r a) = holds c r a && nat_lt (c.part r).shared MAX_SHARES

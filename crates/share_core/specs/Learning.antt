@@ -9,7 +9,7 @@ use Rattle.rup_model.specs.declared.journal.Entry.{Entry}
 use Rattle.rup_model.specs.Rup.{rup}
 use Rattle.rup_model.specs.Journal.{fresh}
 use Rattle.rup_model.specs.Opening.{start_clauses}
-use Rattle.share_core.specs.State.{CoreOpening, opening_of, Part}
+use Rattle.share_core.specs.State.{CoreOpening, opening_of, later, Part}
 
 -- What a ring knows
 
@@ -30,7 +30,7 @@ follows p lits = rup (known_clauses p) lits
 
 -- the ring has a ticket in hand, and the clause contains no start clause and nothing that it learned since it last reduced
 abbrev pub may_learn : CoreOpening → List Entry → Part → ℕ → List Literal → Bool
-may_learn o J p r lits = p.ticket && fresh (start_clauses (opening_of o)) J r lits
+may_learn o J p r lits = p.ticket && fresh (start_clauses (opening_of o)) (later o J) r lits
 
 -- the ring holds a clause that has all these literals
 abbrev pub may_derive : Part → List Literal → Bool

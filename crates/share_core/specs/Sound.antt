@@ -13,7 +13,7 @@ use Rattle.share_core.specs.declared.event.Stop.{Stop}
 use Rattle.share_core.specs.declared.stored.ClauseAt.{ClauseAt}
 use Rattle.share_core.specs.declared.stored.Cell.{Cell}
 use Rattle.share_core.specs.declared.stored.PutNote.{PutNote}
-use Rattle.share_core.specs.State.{times_at, CoreOpening, opening_of, IsCoreOpening, Placed, Part, State, count_at, maker_at, slots, slot_of}
+use Rattle.share_core.specs.State.{times_at, CoreOpening, opening_of, later, IsCoreOpening, Placed, Part, State, count_at, maker_at, slots, slot_of}
 
 -- Counts
 
@@ -160,7 +160,7 @@ pub record Sound (c : State) : Type 0 where
   pub slots : SlotsSound c.opening c
   pub log : JournalSound c.opening c.journal
   pub entries : EntriesOwned c.opening c.journal c.part
-  pub freshness : FreshSound (start_clauses (opening_of c.opening)) c.journal
+  pub freshness : FreshSound (start_clauses (opening_of c.opening)) (later c.opening c.journal)
   pub units : UnitsSound c.opening.formula c.journal c.units c.part
   pub turns : TurnSound c.opening.rings c.turn
   pub stops : StopSound c.opening.formula c.journal c.opening.rings c.stop

@@ -1,11 +1,11 @@
 -- The state of the core: what it was opened with, the journal, the cells with their counts, what each ring has, the
 -- slots of the pools, the listed units, the turn, the stop and the number of draws.
-use Rattle.std.specs.Prelude.{◌≢◌, ℕ, ◌+◌, ◌*◌, ◌^◌, ◌≤◌, Bool, false, ◌==◌, List, [], ◌∷◌, ◌++◌, map, length, All, Option, Some, None, if◌then◌else◌}
+use Rattle.std.specs.Prelude.{◌≢◌, ℕ, ◌+◌, ◌*◌, ◌^◌, ◌≤◌, Bool, false, ◌==◌, List, [], ◌∷◌, ◌++◌, map, length, drop, All, Option, Some, None, if◌then◌else◌}
 use Rattle.sat_words.specs.Literal.{Literal}
 use Rattle.rup_model.specs.declared.journal.TheConstants.{RULER_RING}
 use Rattle.rup_model.specs.declared.journal.Entry.{Entry}
 use Rattle.rup_model.specs.Basics.{one_if}
-use Rattle.rup_model.specs.Opening.{Opening, IsOpening}
+use Rattle.rup_model.specs.Opening.{Opening, OpensAfter}
 use Rattle.sat_words.specs.declared.shared.TheConstants.{MAX_ENTRIES}
 use Rattle.share_core.specs.declared.event.TheConstants.{MAX_DEPTH}
 use Rattle.share_core.specs.declared.event.Stop.{Stop}
@@ -37,6 +37,10 @@ with_cell h hs = if h.address == 0 then hs else hs ++ h ∷ []
 abbrev pub opening_of : CoreOpening → Opening
 opening_of o = record { journal = o.journal; starts = map (λ s. record { number = s.number; lits = s.lits }) o.starts; units = o.units }
 
+-- the entries after the opening's journal
+abbrev pub later : CoreOpening → List Entry → List Entry
+later o J = drop (length o.journal) J
+
 -- an opening for 1 to 16 rings, with 1 to 16 slots for each two rings and class, its start clauses at addresses that are
 -- not 0 and differ, and a limit so low that the number of draws fits a word
 pub record IsCoreOpening (o : CoreOpening) : Type 0 where
@@ -44,7 +48,7 @@ pub record IsCoreOpening (o : CoreOpening) : Type 0 where
   pub few_rings : o.rings ≤ RULER_RING
   pub some_slot : 1 ≤ o.depth
   pub few_slots : o.depth ≤ MAX_DEPTH
-  pub opens : IsOpening o.formula (opening_of o)
+  pub opens : OpensAfter o.formula (opening_of o)
   pub room : length o.journal ≤ MAX_ENTRIES
   pub placed : All (λ s. s.address ≢ 0) o.starts
   pub apart : (a : ℕ) → times_at a o.starts ≤ 1

@@ -8,7 +8,7 @@ ghost use Rattle.sat_words.specs.Clause.{has, includes, distinct_lits, has_oppos
 ghost use Rattle.rup_model.specs.Journal.{recent, fresh, is_ring};
 ghost use Rattle.share_core.specs.declared.progress.Origin.{Origin};
 ghost use Rattle.share_core.specs.Learning.{follows, may_learn, may_derive};
-ghost use Rattle.share_core.specs.State.{opening_of};
+ghost use Rattle.share_core.specs.State.{opening_of, later};
 ghost use Rattle.rup_model.specs.Opening.{start_clauses};
 ghost use Rattle.share_core.specs.Machine.{has_at, data_of, ring_in, state_of};
 ghost use Rattle.share_core.specs.Guards.{is_long, may_add, may_tell, writes, holds, exchanges, is_enabled};
@@ -62,7 +62,7 @@ fn includes_some(lits: &[Lit], list: &[ClauseAt]) -> bool
 impl Progress {
     /// Whether the clause includes no start clause and nothing that the ring learned since it last reduced.
     fn is_fresh(&self, origin: &Origin, ring: u32, lits: &[Lit]) -> bool
-        ensures { let c = state_of (data_of origin.now self.now) in result ≡ fresh (start_clauses (opening_of c.opening)) c.journal ring lits.now }
+        ensures { let c = state_of (data_of origin.now self.now) in result ≡ fresh (start_clauses (opening_of c.opening)) (later c.opening c.journal) ring lits.now }
     {
         !includes_some(lits, origin.starts.as_slice())
             && !repeats_recent(self.journal.as_slice(), ring, lits)

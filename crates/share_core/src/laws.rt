@@ -3,7 +3,7 @@ ghost use Rattle.std.specs.Prelude.{◌≡◌, ◌<◌, ◌≤◌, ℕ, List, �
 ghost use Rattle.rup_model.specs.declared.journal.Entry.{Entry};
 ghost use Rattle.rup_model.specs.Journal.{ring_of, recent};
 ghost use Rattle.share_core.specs.declared.event.Event.{Event};
-ghost use Rattle.share_core.specs.State.{Placed, CoreOpening, IsCoreOpening, State, opened};
+ghost use Rattle.share_core.specs.State.{later, Placed, CoreOpening, IsCoreOpening, State, opened};
 ghost use Rattle.share_core.specs.Enabled.{IsEnabled, AllEnabled};
 ghost use Rattle.share_core.specs.Events.{after};
 ghost use Rattle.share_core.specs.Left.{Left};
@@ -41,7 +41,7 @@ pub fn entries_are_of_rings()
 
 /// What a ring learned since it last reduced is told by its own entries.
 pub fn recent_by_own_entries()
-    ensures { (c : State) (r : ℕ) → Sound c → r < c.opening.rings → recent r c.journal ≡ recent r (map (λ (p : Placed). p.entry) (c.part r).wrote) }
+    ensures { (c : State) (r : ℕ) → Sound c → r < c.opening.rings → recent r (later c.opening c.journal) ≡ recent r (map (λ (p : Placed). p.entry) (c.part r).wrote) }
 {}
 
 /// What a sound state says in plain words.

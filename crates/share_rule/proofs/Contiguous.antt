@@ -15,7 +15,7 @@ use Rattle.clause_cell.specs.Packing.{words_for}
 use Rattle.clause_cell.specs.Free.{range, whole, first_fit, without_fit, rest_of, largest}
 use Rattle.rup_model.specs.declared.journal.Entry.{Entry}
 use Rattle.rup_model.specs.Basics.{put, one_if}
-use Rattle.rup_model.specs.Opening.{IsOpening, IsStart, Start}
+use Rattle.rup_model.specs.Opening.{IsStart, Start, OpensAfter}
 use Rattle.rup_model.specs.Journal.{Book, added}
 use Rattle.rup_model.proofs.Sums.{put_here}
 use Rattle.rup_model.proofs.Lists.{In}
@@ -232,7 +232,7 @@ module _ (F : List (List Literal)) (l : Layout) (J : List Entry) (ss : List (ℕ
     few_rings = may.few_rings;
     some_slot = may.some_slot;
     few_slots = may.few_slots;
-    opens = subst (λ starts. IsOpening F (record { journal = J; starts = starts; units = us })) (sym (same_starts (first_cell l) ss)) may.opens;
+    opens = subst (λ starts. OpensAfter F (record { journal = J; starts = starts; units = us })) (sym (same_starts (first_cell l) ss)) (let w = may.opens in record { fits = w.rulers_part.fits; accepted = w.rulers_part.accepted; going = w.rulers_part.going; starts = w.starts; numbers = w.numbers; told = w.told; distinct = w.distinct });
     room = may.few_entries;
     placed = All_from_In (λ s. s.address ≢ 0) (starts_at (first_cell l) ss) (λ h i e. let low = (start_vars l ss (first_cell l) may.starts h i).0 in omega arith);
     apart = once ss (first_cell l);

@@ -17,7 +17,7 @@ use Rattle.rup_model.proofs.Lists.{In_any}
 use Rattle.share_core.specs.declared.stored.ClauseAt.{ClauseAt}
 use Rattle.share_core.specs.declared.part.CoreOpening.{CoreOpening}
 use Rattle.share_core.specs.declared.part.Part.{Part}
-use Rattle.share_core.specs.State.{State, opening_of}
+use Rattle.share_core.specs.State.{State, opening_of, later}
 use Rattle.share_core.specs.Sound.{Sound}
 use Rattle.share_core.specs.Learning.{follows, MayAddClause}
 use Rattle.share_core.proofs.Frames.{follows_alive}
@@ -38,7 +38,7 @@ use Rattle.share_rule.proofs.Written.{written_core}
 -- what a ring may add is fresh for it, or a part of what it holds
 cause_of : (c : State) (r : ℕ) (kind : Kind) (lits : List Literal) → Sound c → r < c.opening.rings → MayAddClause c.opening c.journal (c.part r) r kind lits → IsFreshForSome c.opening c.journal lits ⊎ IsPartOfAlive c.opening c.journal lits
 cause_of c r Ruler lits s lt may = absurd may
-cause_of c r Learn lits s lt may = inl (r, lt, (and_parts (c.part r).ticket (fresh (start_clauses (opening_of c.opening)) c.journal r lits) may).1)
+cause_of c r Learn lits s lt may = inl (r, lt, (and_parts (c.part r).ticket (fresh (start_clauses (opening_of c.opening)) (later c.opening c.journal) r lits) may).1)
 cause_of c r Derive lits s lt may =
     let t = In_any (λ (h : ClauseAt). includes h.lits lits) (c.part r).held may in
     inr (t.0.number, t.0.lits, held_alive c r t.0 s lt t.1, t.2)

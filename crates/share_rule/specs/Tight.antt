@@ -11,16 +11,16 @@ use Rattle.rup_model.specs.Log.{alive}
 use Rattle.rup_model.specs.Journal.{book, lines, fresh}
 use Rattle.rup_model.specs.Opening.{Start, IsLong, start_clauses, program_opening}
 use Rattle.share_core.specs.declared.part.CoreOpening.{CoreOpening}
-use Rattle.share_core.specs.State.{opening_of}
+use Rattle.share_core.specs.State.{opening_of, later}
 use Rattle.share_rule.specs.declared.Layout.{Layout}
 use Rattle.share_rule.specs.FirstWords.{begun_with}
 use Rattle.share_rule.specs.Layout.{InVars}
 use Rattle.share_rule.specs.Room.{room}
 
--- one of the rings may learn the clause after this journal: it contains no start clause and nothing that this ring learned since
--- it last reduced
+-- one of the rings may learn the clause after this journal: it contains no start clause and nothing that this ring learned after
+-- the opening since it last reduced
 abbrev pub IsFreshForSome : CoreOpening → List Entry → List Literal → Type 0
-IsFreshForSome o J c = (r : ℕ) × (r < o.rings) × (fresh (start_clauses (opening_of o)) J r c ≡ true)
+IsFreshForSome o J c = (r : ℕ) × (r < o.rings) × (fresh (start_clauses (opening_of o)) (later o J) r c ≡ true)
 
 -- all its literals are in one clause that is alive after this journal
 abbrev pub IsPartOfAlive : CoreOpening → List Entry → List Literal → Type 0

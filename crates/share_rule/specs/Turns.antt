@@ -12,7 +12,7 @@ use Rattle.clause_cell.specs.Free.{first_fit}
 use Rattle.sat_words.specs.declared.shared.TheConstants.{MAX_ENTRIES}
 use Rattle.share_core.specs.declared.event.Event.{Event}
 use Rattle.share_core.specs.declared.event.Event.TheVariants as event
-use Rattle.share_core.specs.State.{times_at}
+use Rattle.share_core.specs.State.{later, times_at}
 use Rattle.share_core.specs.declared.part.CoreOpening.{CoreOpening}
 use Rattle.share_core.specs.declared.part.Part.{Part}
 use Rattle.share_core.specs.Events.{wrote_part, made_part, buried_part}
@@ -101,7 +101,7 @@ MayNote l o r J p (Clause kind lits glue a) =
     MayAddClause o J p r kind lits × IsLong lits × (follows p lits ≡ true) × InVars l lits × (first_fit (words_for (length lits)) (room l o J).holes ≡ Some a)
 MayNote l o r J p (UnitNote kind lit) = MayAddUnit o J p r kind (lit ∷ []) × (follows p (lit ∷ []) ≡ true) × InVars l (lit ∷ [])
 MayNote l o r J p Empty = follows p [] ≡ true
-MayNote l o r J p Reduce = LEARNED_PER_REDUCTION ≤ length (recent r J)
+MayNote l o r J p Reduce = LEARNED_PER_REDUCTION ≤ length (recent r (later o J))
 -- the cell waits at the ring
 MayNote l o r J p (Bury a) = 0 < times_at a p.waiting
 

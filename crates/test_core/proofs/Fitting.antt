@@ -104,7 +104,9 @@ opening_from F ps us rings depth limit e =
       some_slot = leb_yes 1 depth k.0;
       few_slots = leb_yes depth 16 m.0;
       opens = record {
-        rulers_part = record { rulers = λ n x lt. absurd (omega arith); going = refl; fits = tt; accepted = tt };
+        going = refl;
+        fits = tt;
+        accepted = tt;
         starts = All_from_In _ _ (starts_in F ps c.0);
         numbers = distinct hs d.0;
         told = AllPass-from_list_all (is_told F []) us u.0;

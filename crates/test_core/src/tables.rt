@@ -3,7 +3,7 @@
 // A table is read in `events`, its openings stand in `openings`, and what is seen of the core after it is written in `seen`.
 use crate::events::{Row, read};
 use crate::guards::{
-    CELLS, CLAUSES, EXCHANGE, IN_HAND, NO_RINGS, TICKETS, TURNS, UNITS, NO_TICKETS,
+    CELLS, CLAUSES, EXCHANGE, IN_HAND, NO_RINGS, NO_TICKETS, TICKETS, TURNS, UNITS,
 };
 use crate::openings::{EMPTY, FOUR, GIVEN, THREE, open};
 use crate::rows::{ENDED_BEFORE, EQUAL_LEMMAS, OPENING_UNITS, PUT_BESIDE, PUT_TWICE};

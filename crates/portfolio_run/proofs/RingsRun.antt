@@ -66,7 +66,6 @@ others_many ring (suc n) lt =
     (λ is. (let h = others_past ring n (omega arith) in let own = below_own ring n is in omega (arith, h, own)))
     (λ ne. (let h = others_many ring n (omega arith) in let other = below_other ring n ne in omega (arith, h, other))))
 
-
 at_most : (a b : ℕ) → (a < b → ⊥) → b ≤ a
 at_most a zero past = omega arith
 at_most zero (suc b) past = absurd (past (omega arith))

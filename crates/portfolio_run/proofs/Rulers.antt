@@ -1,5 +1,5 @@
 -- Entries of the ruler, and what a journal has that consists of them.
-use Rattle.std.proofs.Common.{◌≡◌, ◌∙◌, ◌==◌, ◌<◌, ◌&&◌, ℕ, suc, Bool, true, false, cond, List, [], ◌∷◌, map, length, All, refl, sym, ap, inl, arith, ne_eqb, append-nil}
+use Rattle.std.proofs.Common.{◌≡◌, ◌∙◌, ◌==◌, ◌<◌, ◌&&◌, ℕ, suc, Bool, true, false, cond, List, [], ◌∷◌, map, All, refl, sym, ap, inl, arith, ne_eqb, append-nil}
 use Rattle.std.specs.List.{filter, list_all}
 use Rattle.std.specs.Option.{is_none}
 use Rattle.std.proofs.lemmas.Bool.{and_parts, eqb-true, true≢false}
@@ -7,7 +7,7 @@ use Rattle.rup_model.specs.declared.journal.TheConstants.{RULER_RING}
 use Rattle.rup_model.specs.declared.journal.Addition.{Addition}
 use Rattle.rup_model.specs.declared.journal.Entry.{Entry}
 use Rattle.rup_model.specs.declared.journal.Entry.TheVariants.{Add, Del, Reduce}
-use Rattle.rup_model.specs.Journal.{Book, book_after, lines_from, ring_of, reduction, additions, learned, is_learn}
+use Rattle.rup_model.specs.Journal.{ring_of, reduction, additions, learned, is_learn}
 use Rattle.rup_model.specs.Opening.{is_ruler, is_rulers}
 use Rattle.rup_model.specs.Spent.{ruler_part, rings_part}
 use Rattle.rup_model.proofs.Parts.{ruler_part-append, rings_part-append, rulers_kind}
@@ -24,13 +24,6 @@ parts e h = and_parts (ring_of e == RULER_RING) (list_all (λ (x : Addition). is
 
 ring_is : (e : Entry) → is_rulers e ≡ true → ring_of e ≡ RULER_RING
 ring_is e h = eqb-true (ring_of e) RULER_RING (parts e h).0
-
--- each of them has one line
-pub rulers_lines : (b : Book) (J : List Entry) → AreRulers J → length (lines_from b J) ≡ length J
-rulers_lines b [] rulers = refl
-rulers_lines b (Add x ∷ J) rulers = ap suc (rulers_lines (book_after b (Add x)) J (later (Add x) J rulers))
-rulers_lines b (Del r n ∷ J) rulers = ap suc (rulers_lines (book_after b (Del r n)) J (later (Del r n) J rulers))
-rulers_lines b (Reduce r ∷ J) rulers = absurd (true≢false (sym (parts (Reduce r) (rulers 0 (Reduce r) (omega arith))).1))
 
 without : (x : Addition) (others : List Addition) (t u : Bool) → u ≡ false → map (λ (y : Addition). y.lits) others ≡ [] → map (λ (y : Addition). y.lits) (cond (t && u) (x ∷ others) others) ≡ []
 without x others true true e none = absurd (true≢false e)

@@ -60,7 +60,7 @@ use Rattle.portfolio_run.specs.Room.{layout_of}
 use Rattle.portfolio_run.specs.Ruled.{schedule_of, IsRuled, IsRuledThrough}
 use Rattle.portfolio_run.specs.Solved.{is_verdict, kind_of, Holds, IsUnsettled, IsReached, IsSolved}
 use Rattle.portfolio_run.proofs.Cuts.{cut_whole, front_of_same, front_told}
-use Rattle.portfolio_run.proofs.Rulers.{AreRulers, all_rulers, rulers_lines, rulers_of_no_ring, rulers_plain}
+use Rattle.portfolio_run.proofs.Rulers.{AreRulers, all_rulers, rulers_of_no_ring, rulers_plain}
 use Rattle.portfolio_run.proofs.Spelling.{formula_on, spelled_from, wider}
 
 on_variables : (L : List Line) → CanBeSpelled L → OnVariables L
@@ -137,7 +137,7 @@ module _ (plan : Plan) (formula : FormulaData) (old now : LineState) (result : R
       let last = has_lines.last in
       record {
         unspent = q;
-        entries = has_lines.entries ∙ rulers_lines (formula_book F) J rulers;
+        entries = has_lines.entries;
         last = omega arith;
         text = has_lines.whole q;
         target = has_lines.target;
@@ -180,7 +180,7 @@ module _ (plan : Plan) (formula : FormulaData) (old now : LineState) (result : R
 
   -- a full output has as many lines as the journal has entries
   full : now.entries ≡ MAX_ENTRIES → MAX_ENTRIES ≤ length J
-  full e = let n = has_lines.entries ∙ rulers_lines (formula_book F) J rulers in omega (arith, e, n)
+  full e = let n : now.entries ≡ length J = has_lines.entries in omega (arith, e, n)
 
   -- it was stopped
   stopped_by : (why : LineStop) → IsAnswer formula J old now (Err why) → IsReached plan formula (stopped_answer why) tally old.faults now.faults J

@@ -1,9 +1,9 @@
 -- What is left of a formula: no empty clause, and models that come back.
 use Rattle.std.proofs.Common.{◌≡◌, ◌∙◌, ℕ, zero, suc, ◌+◌, ◌<◌, ◌≤◌, ◌==◌, Bool, true, false, not, ◌&&◌, ◌||◌, cond, List, [], ◌∷◌, ◌++◌, filter, length, Some, None, refl, sym, ap, subst, inl, inr, ⊎_elim, arith, Contains}
-use Rattle.std.specs.List.{list_any, All, fold, slice_get}
+use Rattle.std.specs.List.{list_any, fold, slice_get}
 use Rattle.std.specs.List.Sorted.{IsPermutation}
 use Rattle.std.specs.Option.{option_map}
-use Rattle.std.proofs.lemmas.Bool.{cases_Bool, and_parts, true≢false, false≢true, or_left}
+use Rattle.std.proofs.lemmas.Bool.{cases_Bool, true≢false, false≢true, or_left}
 use Rattle.std.proofs.lemmas.List.Sorted.{Contains-permutation}
 use Rattle.sat_words.specs.Literal.{Literal, same}
 use Rattle.sat_words.specs.Clause.{has, InOrder, is_empty, has_opposites, two_or_more, clause_of}
@@ -17,7 +17,6 @@ use Rattle.rup_model.specs.declared.journal.Entry.TheVariants.{Add, Del, Reduce}
 use Rattle.rup_model.specs.Rounds.{falsifies, Rounds}
 use Rattle.rup_model.specs.Rup.{conflicts}
 use Rattle.rup_model.specs.Journal.{Book, formula_book, spelled, book_after, book, added}
-use Rattle.rup_model.specs.Opening.{is_rulers}
 use Rattle.rup_model.proofs.Lists.{In, any_In, In_any, none_In, all_In, In_all, In_map, map_In, In_append, In_append_left, In_append_right, has_In, Contains_In, In_Contains}
 use Rattle.rup_model.proofs.Sums.{at_put}
 use Rattle.drat_text.specs.LineState.{LineState}
@@ -55,27 +54,24 @@ formula_good F none zero c e = absurd (let no : ⊥ = cc in no)
 formula_good F none (suc i) c e = let t = some_at F i c none e in (omega arith, (let lt = t.0 in omega arith), t.1)
 
 -- one entry more
-good_step : (b : Book) (e : Entry) (m : ℕ) → is_rulers e ≡ true → 1 ≤ m → b.next ≡ m → list_any is_empty (added (e ∷ [])) ≡ false → IsGood b m → (IsGood (book_after b e) (m + length (added (e ∷ [])))) × ((book_after b e).next ≡ m + length (added (e ∷ [])))
-good_step b (Add x) m r low next some good = (
+good_step : (b : Book) (e : Entry) (m : ℕ) → 1 ≤ m → b.next ≡ m → list_any is_empty (added (e ∷ [])) ≡ false → IsGood b m → (IsGood (book_after b e) (m + length (added (e ∷ [])))) × ((book_after b e).next ≡ m + length (added (e ∷ [])))
+good_step b (Add x) m low next some good = (
   (λ n c. at_put b.clause b.next (Some (spelled x)) (λ y. y ≡ Some c → (1 ≤ n) × (n < m + 1) × (is_empty c ≡ false)) n
-      (λ is e. (let same_c : spelled x ≡ c = cc in (omega arith, omega arith, subst (λ (d : List Literal). is_empty d ≡ false) (sym (by (x.ring == RULER_RING) ruled) ∙ same_c) (some_in_order x.lits (none_In is_empty (x.lits ∷ []) x.lits some (inl refl))))))
+      (λ is e. (let same_c : spelled x ≡ c = cc in (omega arith, omega arith, subst (λ (d : List Literal). is_empty d ≡ false) same_c (by (x.ring == RULER_RING) (none_In is_empty (x.lits ∷ []) x.lits some (inl refl))))))
       (λ ne e. (let t = good n c e in (t.0, (let lt = t.1 in omega arith), t.2)))),
   omega arith,
 )
   where
-    ruled : (x.ring == RULER_RING) ≡ true
-    ruled = (and_parts (x.ring == RULER_RING) _ r).0
-
-    by : (t : Bool) → t ≡ true → cond t (clause_of x.lits) x.lits ≡ clause_of x.lits
-    by true e = refl
-    by false e = absurd (true≢false (sym e))
-good_step b (Del q k) m r low next some good = (
+    by : (t : Bool) → is_empty x.lits ≡ false → is_empty (cond t (clause_of x.lits) x.lits) ≡ false
+    by true e = some_in_order x.lits e
+    by false e = e
+good_step b (Del q k) m low next some good = (
   (λ n c. at_put b.clause k None (λ y. y ≡ Some c → (1 ≤ n) × (n < m + 0) × (is_empty c ≡ false)) n
       (λ is e. absurd (let no : ⊥ = cc in no))
       (λ ne e. (let t = good n c e in (t.0, (let lt = t.1 in omega arith), t.2)))),
   omega arith,
 )
-good_step b (Reduce q) m r low next some good = ((λ n c e. (let t = good n c e in (t.0, (let lt = t.1 in omega arith), t.2))), omega arith)
+good_step b (Reduce q) m low next some good = ((λ n c e. (let t = good n c e in (t.0, (let lt = t.1 in omega arith), t.2))), omega arith)
 
 added_apart : (e : Entry) (J : List Entry) → (length (added (e ∷ J)) ≡ length (added (e ∷ [])) + length (added J)) × (list_any is_empty (added (e ∷ J)) ≡ false → (list_any is_empty (added (e ∷ [])) ≡ false) × (list_any is_empty (added J) ≡ false))
 added_apart (Add x) J = (omega arith, λ h. by (is_empty x.lits) h)
@@ -86,19 +82,19 @@ added_apart (Add x) J = (omega arith, λ h. by (is_empty x.lits) h)
 added_apart (Del r n) J = (omega arith, λ h. (refl, h))
 added_apart (Reduce r) J = (omega arith, λ h. (refl, h))
 
-good_from : (b : Book) (J : List Entry) (m : ℕ) → All (λ e. is_rulers e ≡ true) J → 1 ≤ m → b.next ≡ m → list_any is_empty (added J) ≡ false → IsGood b m → IsGood (fold book_after b J) (m + length (added J))
-good_from b [] m r low next some good = λ n c e. (let t = good n c e in (t.0, (let lt = t.1 in omega arith), t.2))
-good_from b (e ∷ J) m r low next some good =
+good_from : (b : Book) (J : List Entry) (m : ℕ) → 1 ≤ m → b.next ≡ m → list_any is_empty (added J) ≡ false → IsGood b m → IsGood (fold book_after b J) (m + length (added J))
+good_from b [] m low next some good = λ n c e. (let t = good n c e in (t.0, (let lt = t.1 in omega arith), t.2))
+good_from b (e ∷ J) m low next some good =
     let apart = added_apart e J in
     let parts = apart.1 some in
-    let one = good_step b e m (r 0 e (omega arith)) low next parts.0 good in
+    let one = good_step b e m low next parts.0 good in
     let length_is : m + length (added (e ∷ [])) + length (added J) ≡ m + length (added (e ∷ J)) = (let h = apart.0 in omega arith) in
     subst (IsGood (fold book_after (book_after b e) J)) length_is
-    (good_from (book_after b e) J (m + length (added (e ∷ []))) (λ k d lt. r (suc k) d (omega arith)) (omega arith) one.1 parts.1 one.0)
+    (good_from (book_after b e) J (m + length (added (e ∷ []))) (omega arith) one.1 parts.1 one.0)
 
-pub good : (F : List (List Literal)) (J : List Entry) → All (λ e. is_rulers e ≡ true) J → list_any is_empty F ≡ false → list_any is_empty (added J) ≡ false
+pub good : (F : List (List Literal)) (J : List Entry) → list_any is_empty F ≡ false → list_any is_empty (added J) ≡ false
     → (n : ℕ) (c : List Literal) → (book F J).clause n ≡ Some c → (1 ≤ n) × (n < suc (length F) + length (added J)) × (is_empty c ≡ false)
-good F J r none some = good_from (formula_book F) J (suc (length F)) r (omega arith) refl some (formula_good F none)
+good F J none some = good_from (formula_book F) J (suc (length F)) (omega arith) refl some (formula_good F none)
 
 -- The formula's clauses
 

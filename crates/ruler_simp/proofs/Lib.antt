@@ -5,3 +5,4 @@ mod Units
 mod Numbered
 mod Leaving
 pub mod Telling
+mod Resting

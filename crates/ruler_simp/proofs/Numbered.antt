@@ -151,13 +151,13 @@ starts_from b a (suc k) xs r f g = here b a k (λ ys s u v. starts_from b (a + 1
 
 -- the clauses of a book in order of number, those that take part
 pub starts_are : (b : Book) (m : ℕ) (cells xs : List Cell) → HaveOwnNumbers cells → IsPermutation (filter (λ (c : Cell). takes_part c.1) cells) xs → IsNonDecreasingBy (λ (c : Cell). c.0) xs
-    → ((n : ℕ) (c : List Literal) → Contains cells (n, c) → b.clause n ≡ Some c) → ((n : ℕ) (c : List Literal) → b.clause n ≡ Some c → Contains cells (n, c))
+    → ((n : ℕ) (c : List Literal) → Contains cells (n, c) → b.clause n ≡ Some c) → ((n : ℕ) (c : List Literal) → b.clause n ≡ Some c → takes_part c ≡ true → Contains cells (n, c))
     → ((n : ℕ) (c : List Literal) → b.clause n ≡ Some c → (1 ≤ n) × (n < 1 + m)) → map start_of xs ≡ filter_map (start_at b) (range_with_len 1 m)
 starts_are b m cells xs own perm up held all within =
     starts_from b 1 m xs
     (rising 1 xs up (λ n. subst (λ (k : ℕ). k ≤ 1) (sym (sum_by-IsPermutation (λ (c : Cell). one_if (c.0 == n)) kept xs perm)) (filter_once (λ (c : Cell). takes_part c.1) cells (own_once cells own) n)) low)
     (λ n c i. (let h = member n c i in let is = held n c (In_Contains cells (n, c) h.0) in (is, h.1, (within n c is).1)))
-    (λ n c le is part. Contains_In xs (n, c) (Contains-permutation kept xs (n, c) perm (In_Contains kept (n, c) (In_filter (λ (d : Cell). takes_part d.1) cells (n, c) (Contains_In cells (n, c) (all n c is)) part))))
+    (λ n c le is part. Contains_In xs (n, c) (Contains-permutation kept xs (n, c) perm (In_Contains kept (n, c) (In_filter (λ (d : Cell). takes_part d.1) cells (n, c) (Contains_In cells (n, c) (all n c is part)) part))))
   where
     kept : List Cell
     kept = filter (λ (c : Cell). takes_part c.1) cells

@@ -1,5 +1,5 @@
 -- What simplifiers leave that run one after another, in rounds.
-use Rattle.std.proofs.Common.{◌≡◌, ◌∙◌, ℕ, zero, suc, List, [], ◌∷◌, ◌++◌, Bool, true, false, refl, sym, ap, subst, inl, inr, append_assoc, append-nil}
+use Rattle.std.proofs.Common.{◌≡◌, ◌∙◌, ℕ, zero, suc, List, [], ◌∷◌, ◌++◌, Bool, true, false, refl, sym, ap, subst, inl, inr}
 use Rattle.std.specs.Prelude.{Result, Ok}
 use Rattle.rup_model.specs.declared.journal.Entry.{Entry}
 use Rattle.drat_text.specs.declared.stop.LineStop.{LineStop}

@@ -1,29 +1,28 @@
 -- Units that are known are listed, and they are those of the program's opening.
-use Rattle.std.proofs.Common.{◌≡◌, ◌∙◌, ℕ, Bool, true, false, cond, List, [], ◌∷◌, ◌++◌, Option, Some, None, refl, sym, ap, subst, inl, inr, Contains}
-use Rattle.std.specs.List.{filter_map, cons_option}
+use Rattle.std.proofs.Common.{◌≡◌, ◌∙◌, Bool, true, false, cond, List, [], ◌∷◌, ◌++◌, Option, Some, None, refl, sym, ap, subst, inl, inr, arith, append-nil}
+use Rattle.std.specs.List.{list_any, filter_map, cons_option}
 use Rattle.std.specs.Set.{is_member, unique_keys}
 use Rattle.std.proofs.lemmas.Bool.{or_cases, true≢false, false≢true}
 use Rattle.sat_words.specs.Literal.{Literal, same}
-use Rattle.sat_words.specs.Clause.{has, InOrder, same_set, just_one}
-use Rattle.sat_words.proofs.Canonical.{same_clause}
-use Rattle.sat_words.proofs.Insertion.{InOrder-clause_of}
-use Rattle.sat_words.proofs.Members.{same-refl, same-true}
+use Rattle.sat_words.specs.Clause.{has, same_set, just_one}
+use Rattle.sat_words.proofs.Members.{same-true}
 use Rattle.rup_model.specs.declared.journal.Entry.{Entry}
 use Rattle.rup_model.specs.Journal.{added, is_told}
 use Rattle.rup_model.specs.Opening.{IsRulersPart, only_literal, program_opening}
-use Rattle.rup_model.proofs.Lists.{In, any_In, In_any, has_In, In_has, In_map, Contains_In}
+use Rattle.rup_model.proofs.Lists.{In, In_any, has_In, In_has}
 use Rattle.rup_model.proofs.Covers.{both_true, same_has}
 use Rattle.rup_model.proofs.Units.{unit_one}
-use Rattle.rup_model.proofs.Told.{told_alive}
-use Rattle.rup_model.proofs.ProgramOpening.{rulers_ordered, program_opens}
+use Rattle.rup_model.proofs.JournalSteps.{log_starts}
+use Rattle.rup_model.proofs.ProgramOpening.{program_opens}
 use Rattle.drat_text.specs.LineState.{LineState}
-use Rattle.simp_base.specs.WorkState.{WorkState, lists, is_only, is_alive_unit}
-use Rattle.simp_base.specs.Log.{Stands}
+use Rattle.drat_text.specs.JournalText.{Origin}
+use Rattle.simp_base.specs.WorkState.{WorkState, is_alive_unit}
+use Rattle.simp_base.specs.Log.{journal_of, Stands}
 use Rattle.simp_base.proofs.Lists.{All_In}
 
 -- Lists
 
-In_filter_map : {X Y : Type 0} (h : X → Option Y) (xs : List X) (x : X) (y : Y) → In x xs → h x ≡ Some y → In y (filter_map h xs)
+pub In_filter_map : {X Y : Type 0} (h : X → Option Y) (xs : List X) (x : X) (y : Y) → In x xs → h x ≡ Some y → In y (filter_map h xs)
 In_filter_map h [] x y i e = absurd i
 In_filter_map {X} {Y} h (z ∷ xs) x y i e = by (h z) refl i (λ k. In_filter_map h xs x y k e)
   where
@@ -55,30 +54,31 @@ only_of l (k ∷ c) s = by (just_one (k ∷ c)) (unit_one l (k ∷ c) s)
     by true e = ap (λ (x : Literal). Some x) is
     by false e = absurd (false≢true e)
 
+-- The units of a journal
+
+pub opened_unit : (F : List (List Literal)) (J : List Entry) (l : Literal) → is_told F J l ≡ true → has (program_opening F J).units l ≡ true
+opened_unit F J l t =
+    let s = In_any (same_set (l ∷ [])) (F ++ added J) t in
+    In_has (program_opening F J).units l (In_unique (filter_map only_literal (F ++ added J)) l (In_filter_map only_literal (F ++ added J) s.0 l s.1 (only_of l s.0 s.2)))
+
+-- those of the program's opening are told: they are those of a formula of all clauses that were given or added
+told_unit : (F : List (List Literal)) (J : List Entry) (l : Literal) → In l (program_opening F J).units → is_told F J l ≡ true
+told_unit F J l i =
+    let G : List (List Literal) = F ++ added J in
+    let none : IsRulersPart G [] = record { rulers = λ k d lt. absurd (omega arith); going = refl; fits = (log_starts G).fits; accepted = (log_starts G).accepted } in
+    let is : G ++ [] ≡ G = append-nil G in
+    subst (λ (H : List (List Literal)). list_any (same_set (l ∷ [])) H ≡ true) is
+    (All_In (λ k. is_told G [] k ≡ true) (program_opening G []).units l (program_opens G [] none).told (subst (λ (H : List (List Literal)). In l (unique_keys same (filter_map only_literal H))) (sym is) i))
+
 -- A work over a journal
 
-module _ (F : List (List Literal)) (out : LineState) (J : List Entry) (w : WorkState) (st : Stands (record { formula = F; journal = []; output = out }) J w) where
-  pub ordered : (n : ℕ) (c : List Literal) → Contains w.clauses (n, c) → InOrder c
-  ordered n c i = rulers_ordered F J st.rulers n c (st.held n c i)
-
-  alive_unit : (l : Literal) → is_told F J l ≡ true → is_alive_unit w l ≡ true
-  alive_unit l t =
-      let h = told_alive F J l st.sound.fits t in
-      let is : l ∷ [] ≡ h.1 = same_clause (l ∷ []) h.1 (InOrder-clause_of (l ∷ [])) (rulers_ordered F J st.rulers h.0 h.1 h.2) (same_has (l ∷ []) h.1 h.3) in
-      any_In (is_only l) (lists w.clauses) h.1 (In_map (λ (x : ℕ × List Literal). x.1) w.clauses (h.0, h.1) (Contains_In w.clauses (h.0, h.1) (st.all h.0 h.1 h.2)))
-      (subst (λ (c : List Literal). is_only l c ≡ true) is (same-refl l))
-
-  opened_unit : (l : Literal) → is_told F J l ≡ true → has (program_opening F J).units l ≡ true
-  opened_unit l t =
-      let s = In_any (same_set (l ∷ [])) (F ++ added J) t in
-      In_has (program_opening F J).units l (In_unique (filter_map only_literal (F ++ added J)) l (In_filter_map only_literal (F ++ added J) s.0 l s.1 (only_of l s.0 s.2)))
-
-  -- if no entry adds the empty clause, the journal is one that the ruler may leave
-  pub rulers_part : w.ended ≡ false → IsRulersPart F J
-  rulers_part going = record { rulers = st.rulers; going = sym st.ended ∙ going; fits = st.sound.fits; accepted = st.sound.accepted }
-
+module _ (o : Origin) (mine : List Entry) (w : WorkState) (st : Stands o mine w) where
   -- if the units whose clauses are alive are listed
-  pub units_are : w.ended ≡ false → ((l : Literal) → is_alive_unit w l ≡ true → has w.units l ≡ true) → (l : Literal) → has w.units l ≡ has (program_opening F J).units l
-  units_are going alone l = both_true (has w.units l) (has (program_opening F J).units l)
-      (λ h. opened_unit l (All_In (λ k. is_told F J k ≡ true) w.units l st.told (has_In w.units l h)))
-      (λ h. alone l (alive_unit l (All_In (λ k. is_told F J k ≡ true) (program_opening F J).units l (program_opens F J (rulers_part going)).told (has_In (program_opening F J).units l h))))
+  pub units_are : ((l : Literal) → is_alive_unit w l ≡ true → has w.units l ≡ true) → (l : Literal) → has w.units l ≡ has (program_opening o.formula (journal_of o mine)).units l
+  units_are alone l = both_true (has w.units l) (has (program_opening o.formula (journal_of o mine)).units l)
+      (λ h. opened_unit o.formula (journal_of o mine) l (All_In (λ k. is_told o.formula (journal_of o mine) k ≡ true) w.units l st.told (has_In w.units l h)))
+      (λ h. elim (or_cases (has w.units l) (is_alive_unit w l) (st.every l (told_unit o.formula (journal_of o mine) l (has_In (program_opening o.formula (journal_of o mine)).units l h)))) as (λ _. has w.units l ≡ true) [ inl listed ↦ listed | inr alive ↦ alone l alive ])
+
+-- if no entry adds the empty clause, the journal is one that the ruler may leave
+pub rulers_part : (F : List (List Literal)) (out : LineState) (J : List Entry) (w : WorkState) → Stands (record { formula = F; journal = []; output = out }) J w → w.ended ≡ false → IsRulersPart F J
+rulers_part F out J w st going = record { rulers = st.rulers; going = sym st.ended ∙ going; fits = st.sound.fits; accepted = st.sound.accepted }

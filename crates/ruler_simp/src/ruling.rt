@@ -1,15 +1,19 @@
-// The call: a formula is simplified in rounds, and what is left of it is taken apart for the search.
+// The calls: a formula is simplified in rounds, or what is left of one while the search rests, and what is left then is taken
+// apart for the search.
 ghost use Rattle.std.specs.Prelude.{◌≡◌, false, length, All};
 ghost use Rattle.sat_words.specs.Literal.{IsOn};
+ghost use Rattle.simp_base.specs.WorkState.{resumed};
+ghost use Rattle.simp_base.specs.Resumed.{CanResume};
 ghost use Rattle.ruler_simp.specs.Left.{IsTaken};
 ghost use Rattle.ruler_simp.specs.Ruled.{Ruled};
+ghost use Rattle.ruler_simp.specs.Again.{RuledAgain};
 
 use crate::rounds::{Schedule, run};
 use crate::starts::starts_of;
 use drat_text::{LineOut, LineStop};
 use model_stack::Stack;
 use sat_words::{Clause, Formula, Lit};
-use simp_base::{Parts, Run, Work};
+use simp_base::{LogEnd, Parts, Run, Work};
 use std::alloc::Global;
 
 /// What is left of a formula.
@@ -88,4 +92,38 @@ pub fn simplify<L: LineOut>(
     };
     let answer = run(&mut work, schedule);
     take(answer, work)
+}
+
+/// Simplifies what is left of a formula once more: `clauses`, under their numbers, are those of two literals or more and without
+/// opposites that are alive after a journal, and `units` all that are in the formula or were added, each once. The rounds are
+/// those of `simplify`.
+///
+/// The lines go to the output, after those of the journal, and the entries of the stack after those that it has, so that it mends a
+/// model of what is left to one of the formula. The output comes back with each answer. After a fault it takes no more lines; after
+/// any error nothing else is left.
+pub fn again<L: LineOut>(
+    alloc: Global,
+    formula: &Formula,
+    vars: u32,
+    clauses: Vec<(u64, Clause)>,
+    units: Vec<Lit>,
+    schedule: Schedule,
+    stack: Stack,
+    end: LogEnd,
+    output: L,
+) -> (Result<Outcome, LineStop>, L)
+    requires unspent { (L.told output).spent ≡ false }
+    requires resumes { CanResume formula.now.clauses vars clauses.items units.items stack (L.told output) }
+    requires entries { end.entries ≡ (L.told output).entries }
+    requires last { end.last ≡ (L.told output).last }
+    ensures { RuledAgain formula.now.clauses schedule (resumed vars clauses.items units.items stack (L.told output)) (L.told result.1) result.0 }
+{
+    match Work::again(alloc, formula, vars, clauses, units, stack, end, output) {
+        Ok(made) => {
+            let mut work = made;
+            let answer = run(&mut work, schedule);
+            take(answer, work)
+        }
+        Err(refused) => (Err(LineStop::Memory), refused.value),
+    }
 }

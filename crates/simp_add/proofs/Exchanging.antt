@@ -116,6 +116,7 @@ module _ (w : WorkState) (x l k : Literal) (firsts gone : List ℕ) (r : IsRepla
         let is : set_at b.clauses l n ≡ others l u.0 = set_is b both.on.work l n u.0 there in
         record {
           new = subst (λ (v : ℕ). IsOn v x) (sym both.vars) r.new;
+          above = (let same = both.unheld in let lt = r.above in omega arith);
           clause = u.0;
           alive = there;
           free = ap (λ (C : List Literal). has C x) is ∙ refuted _ (λ e. true≢false (sym (others_in l x u.0 e).0 ∙ (or_parts (has u.0 x) (has u.0 (opposite x)) (r.free n u.0 u.1)).0));

@@ -68,6 +68,7 @@ pub grown_none : (w : WorkState) → w.ended ≡ false → w.output.spent ≡ fa
 grown_none w going unspent kept = record {
   on = goes_self w going unspent kept;
   vars = refl;
+  unheld = refl;
   log = continues_self w;
   clauses = sym (append-nil w.clauses);
   last = omega arith;
@@ -79,6 +80,7 @@ grown_along a b c xs ys f g =
     record {
       on = goes_along a b c f.on g.on;
       vars = g.vars ∙ f.vars;
+      unheld = g.unheld ∙ f.unheld;
       log = subst (λ (es : List Entry). Continues es a c) (sym (adds_append (a.output.last + 1) xs ys ∙ ap (λ (m : ℕ). adds (a.output.last + 1) xs ++ adds m ys) (sym next)))
           (continues_along (adds (a.output.last + 1) xs) (adds (b.output.last + 1) ys) a b c f.log g.log);
       clauses = g.clauses ∙ ap (λ (cs : List (ℕ × List Literal)). cs ++ numbered (b.output.last + 1) ys) f.clauses
@@ -99,6 +101,7 @@ grown_added old new lits number unspent some kept h log = record {
     stack = ap (λ (w : WorkState). w.stack) h.state;
   };
   vars = ap (λ (w : WorkState). w.vars) h.state;
+  unheld = ap (λ (w : WorkState). w.unheld) h.state;
   log = log;
   clauses = ap (λ (w : WorkState). w.clauses) h.state ∙ ap (λ (n : ℕ). old.clauses ++ (n, clause_of lits) ∷ []) h.put.given;
   last = ap (λ (s : LineState). s.last) h.put.state;
@@ -179,6 +182,7 @@ comes_later a b x l n made kept later g free h =
     let same_at : set_at b.clauses l n ≡ set_at a.clauses l n = set_is b later l n h.clause (grown_stay a b made g n h.clause h.alive) ∙ sym (set_is a kept l n h.clause h.alive) in
     record {
       new = subst (λ (v : ℕ). IsOn v x) (sym g.vars) h.new;
+      above = (let same = g.unheld in let lt = h.above in omega arith);
       clause = h.clause;
       alive = grown_stay a b made g n h.clause h.alive;
       free = ap (λ (C : List Literal). has C x) same_at ∙ h.free;

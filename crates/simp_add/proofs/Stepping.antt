@@ -57,6 +57,7 @@ replaceable old mid x l k firsts gone kept on partner shared wide =
     (subst (λ (m : WorkState). IsReplaceable m (next_literal old) l k firsts gone) (sym wide.state) (record {
       work = work_wider old (old.vars + 1) (omega arith) kept;
       new = record { low = omega arith; high = omega arith };
+      above = (let low = kept.unheld in omega arith);
       free = next_free old kept;
       first = on_wider old.vars (old.vars + 1) (omega arith) l on;
       partner = record { after = partner.after; enough = partner.enough; most = partner.most; least = partner.least };

@@ -1,5 +1,5 @@
 -- What the additions and the deletions of one replacement do, and what a literal's turn does.
-use Rattle.std.specs.Prelude.{◌≡◌, ◌↔◌, ⊤, ℕ, ◌+◌, ◌≤◌, ◌^◌, true, false, List, [], ◌∷◌, ◌++◌, map, length, Contains, Result, Ok, Err}
+use Rattle.std.specs.Prelude.{◌≡◌, ◌↔◌, ⊤, ℕ, ◌+◌, ◌<◌, ◌≤◌, ◌^◌, true, false, List, [], ◌∷◌, ◌++◌, map, length, Contains, Result, Ok, Err}
 use Rattle.std.specs.Option.{option_map, unwrap_or}
 use Rattle.sat_words.specs.Literal.{Literal, IsOn, same}
 use Rattle.sat_words.specs.Clause.{has, two_or_more}
@@ -35,10 +35,11 @@ Stops old new stop = HasCause old new stop × GrowsLog old new
 abbrev pub set_at : List (ℕ × List Literal) → Literal → ℕ → List Literal
 set_at cs l n = unwrap_or (option_map (others l) (clause_at cs n)) []
 
--- the clause with this number is alive, the new literal is not in its set, and each clause with the new literal has beside it
--- one that with the set is alive
+-- the clause with this number is alive, the new literal is above those of clauses not held and not in its set, and each clause with
+-- the new literal has beside it one that with the set is alive
 pub record CanCome (w : WorkState) (x l : Literal) (n : ℕ) : Type 0 where
   pub new : IsOn w.vars x
+  pub above : w.unheld < x.var
   pub clause : List Literal
   pub alive : Contains w.clauses (n, clause)
   pub free : has (set_at w.clauses l n) x ≡ false
@@ -49,6 +50,7 @@ pub record CanCome (w : WorkState) (x l : Literal) (n : ℕ) : Type 0 where
 pub record Grown (old new : WorkState) (made : List (List Literal)) : Type 0 where
   pub on : GoesOn old new
   pub vars : new.vars ≡ old.vars
+  pub unheld : new.unheld ≡ old.unheld
   pub log : Continues (adds (old.output.last + 1) made) old new
   pub clauses : new.clauses ≡ old.clauses ++ numbered (old.output.last + 1) made
   pub last : new.output.last ≡ old.output.last + length made
@@ -82,10 +84,12 @@ WasRemoved old new numbers (Err stop) = Stops old new stop
 
 -- One replacement
 
--- the two literals have these common sets, of which there are three or more, and no clause has the new literal's variable
+-- the two literals have these common sets, of which there are three or more, and no clause has the new literal's variable, held
+-- or not
 pub record IsReplaceable (w : WorkState) (x l k : Literal) (firsts gone : List ℕ) : Type 0 where
   pub work : IsWork w
   pub new : IsOn w.vars x
+  pub above : w.unheld < x.var
   pub free : (n : ℕ) (c : List Literal) → Contains w.clauses (n, c) → mentions x c ≡ false
   pub first : IsOn w.vars l
   pub partner : IsPartner w l k

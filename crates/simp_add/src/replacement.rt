@@ -3,7 +3,7 @@
 // The new literal stands for both: it or the first, it or the second; and its negation comes with each common set. Each of these
 // clauses has the RAT property on the new variable, and the old ones follow from them (M. Järvisalo, M. J. H. Heule and
 // A. Biere, "Inprocessing Rules", IJCAR 2012), so that the old ones are deleted last.
-ghost use Rattle.std.specs.Prelude.{◌≡◌, ◌∷◌, [], ℕ, List, map, All, Contains, OnOk, true, false};
+ghost use Rattle.std.specs.Prelude.{◌≡◌, ◌<◌, ◌∷◌, [], ℕ, List, map, All, Contains, OnOk, true, false};
 ghost use Rattle.sat_words.specs.Literal.{Literal, IsOn, opposite};
 ghost use Rattle.rup_model.specs.Rup.{rat};
 ghost use Rattle.simp_base.specs.WorkState.{IsWork, lists};
@@ -32,6 +32,7 @@ fn add_pair<L: LineOut>(work: &mut Work<L>, fresh: Lit, other: Lit) -> Result<()
     requires unspent { work.old.output.spent ≡ false }
     requires going { work.old.ended ≡ false }
     requires rat { rat (lists work.old.clauses) (fresh ∷ other ∷ []) ≡ true }
+    requires above { work.old.unheld < fresh.var }
     requires on { All (IsOn work.old.vars) (fresh ∷ other ∷ []) }
     ensures grown { WasGrown work.old work.new ((fresh ∷ other ∷ []) ∷ []) result }
     ensures work { IsWork work.new }

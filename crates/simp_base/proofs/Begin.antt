@@ -1,19 +1,24 @@
 -- How a work begins.
-use Rattle.std.proofs.Common.{◌≡◌, ℕ, zero, suc, ◌+◌, ◌<◌, false, List, [], ◌∷◌, ◌++◌, length, take, get_or, refl, sym, ap, ◌∙◌, subst, inl, inr, arith, Some, Contains}
+use Rattle.std.proofs.Common.{◌≡◌, ℕ, zero, suc, ◌+◌, ◌<◌, true, false, List, [], ◌∷◌, ◌++◌, length, take, get_or, refl, sym, ap, ◌∙◌, subst, inl, inr, arith, Option, None, Some, Contains}
 use Rattle.std.proofs.lemmas.Bool.{true≢false}
 use Rattle.std.specs.List.{All, slice_get}
 use Rattle.std.specs.Option.{option_map}
 use Rattle.sat_words.specs.Literal.{Literal, IsOn}
-use Rattle.sat_words.specs.Clause.{clause_of}
+use Rattle.sat_words.specs.Clause.{InOrder, clause_of}
+use Rattle.sat_words.proofs.Canonical.{same_clause}
+use Rattle.sat_words.proofs.Insertion.{InOrder-clause_of}
 use Rattle.sat_words.specs.FormulaData.{FormulaData}
-use Rattle.rup_model.specs.Journal.{formula_clause}
+use Rattle.rup_model.specs.Journal.{formula_clause, is_told}
 use Rattle.rup_model.proofs.Lists.{In, In_Contains, Contains_In}
+use Rattle.rup_model.proofs.Covers.{same_has}
+use Rattle.rup_model.proofs.Told.{told_alive}
 use Rattle.rup_model.proofs.JournalSteps.{log_starts}
 use Rattle.drat_text.specs.LineState.{LineState}
 use Rattle.drat_text.proofs.JournalLines.{has_text_begun}
-use Rattle.simp_base.specs.WorkState.{IsWork, lists, numbered, begun}
+use Rattle.simp_base.specs.WorkState.{IsWork, lists, numbered, begun, is_unit}
 use Rattle.simp_base.specs.Log.{Stands}
 use Rattle.simp_base.proofs.Keeping.{clause_of_on}
+use Rattle.simp_base.proofs.Steps.{unit_alive}
 
 -- one more clause
 pub numbered_more : (n : ℕ) (F : List (List Literal)) (i : ℕ) (d : List Literal) → i < length F → numbered n (take (i + 1) F) ≡ numbered n (take i F) ++ (n + i, clause_of (get_or F i d)) ∷ []
@@ -51,6 +56,7 @@ all_from n (d ∷ F) (suc i) c is = let k : suc n + i ≡ n + suc i = omega arit
 
 pub begun_work : (F : FormulaData) (out : LineState) → out.last ≡ length F.clauses → All (All (IsOn F.vars)) F.clauses → IsWork (begun F out)
 begun_work F out last on = record {
+  unheld = omega arith;
   numbers = λ i j d ij jl q. (
       let n = length-numbered 1 F.clauses in
       let a = number_at 1 F.clauses i d (omega arith) in
@@ -69,8 +75,10 @@ begun_stands F out unspent blank last = record {
   on = λ k d lt. absurd (omega arith);
   ended = refl;
   held = λ n c h. (let t = held_from 1 F.clauses n c (Contains_In (numbered 1 F.clauses) (n, c) h) in let e : n ≡ suc t.0 = (let z = t.1 in omega arith) in ap (formula_clause F.clauses) e ∙ t.2);
-  all = all;
+  ordered = λ n c h. (let t = held_from 1 F.clauses n c (Contains_In (numbered 1 F.clauses) (n, c) h) in in_order (slice_get F.clauses t.0) c t.2);
+  all = λ n c is. inl (all n c is);
   told = λ k d lt. absurd (omega arith);
+  every = every;
   lines = record {
     entries = blank;
     last = (let z = last in omega arith);
@@ -84,6 +92,18 @@ begun_stands F out unspent blank last = record {
     all : (n : ℕ) (c : List Literal) → formula_clause F.clauses n ≡ Some c → Contains (numbered 1 F.clauses) (n, c)
     all zero c is = absurd (cc)
     all (suc i) c is = let e : 1 + i ≡ suc i = omega arith in In_Contains (numbered 1 F.clauses) (suc i, c) (subst (λ j. In (j, c) (numbered 1 F.clauses)) e (all_from 1 F.clauses i c is))
+
+    in_order : (found : Option (List Literal)) (c : List Literal) → option_map clause_of found ≡ Some c → InOrder c
+    in_order None c is = absurd (cc)
+    in_order (Some d) c is = let e : clause_of d ≡ c = cc in subst InOrder e (InOrder-clause_of d)
+
+    every : (l : Literal) → is_told F.clauses [] l ≡ true → is_unit (begun F out) l ≡ true
+    every l t =
+        let u = told_alive F.clauses [] l (log_starts F.clauses).fits t in
+        let there : Contains (numbered 1 F.clauses) (u.0, u.1) = all u.0 u.1 u.2 in
+        let found = held_from 1 F.clauses u.0 u.1 (Contains_In (numbered 1 F.clauses) (u.0, u.1) there) in
+        unit_alive (begun F out) u.0 u.1 l there
+        (sym (same_clause (l ∷ []) u.1 (InOrder-clause_of (l ∷ [])) (in_order (slice_get F.clauses found.0) u.1 found.2) (same_has (l ∷ []) u.1 u.3)))
 
 -- a copy of a clause of the formula is on the variables
 pub copy_on : (vars : ℕ) (F : List (List Literal)) (i : ℕ) (x copy : List Literal) → All (All (IsOn vars)) F → i < length F → x ≡ get_or F i x → copy ≡ clause_of x → All (IsOn vars) copy

@@ -59,6 +59,7 @@ work_added w kept lits on number b put cs is en =
     let last : b.last ≡ w.output.last + 1 = ap (λ (s : LineState). s.last) put.state in
     let given = put.given in
     subst (λ ds. IsWork (record w { clauses = ds; ended = en; output = b })) (sym is) (record {
+      unheld = kept.unheld;
       numbers = numbers_more w.clauses w.output.last number (clause_of lits) kept.numbers kept.given (omega arith);
       given = All-append (λ x. x.0 ≤ b.last) w.clauses ((number, clause_of lits) ∷ []) (λ k d lt. let g = kept.given k d lt in omega arith) (one_All (λ x. x.0 ≤ b.last) (number, clause_of lits) (omega arith));
       clauses_on = subst (All (All (IsOn w.vars))) (sym (lists_more w.clauses number (clause_of lits))) (All-append (All (IsOn w.vars)) (lists w.clauses) (clause_of lits ∷ []) kept.clauses_on (one_All (All (IsOn w.vars)) (clause_of lits) (clause_of_on w.vars lits on)));
@@ -82,6 +83,7 @@ pub work_deleted : (w : WorkState) → IsWork w → (c : List Literal) (b : Line
 work_deleted w kept c b put cs place gone =
     let last : b.last ≡ w.output.last = ap (λ (s : LineState). s.last) put.state in
     record {
+      unheld = kept.unheld;
       numbers = own_less w.clauses cs place gone kept.numbers;
       given = removed_All w.clauses cs place gone (λ x. x.0 ≤ b.last) (λ k d lt. let g = kept.given k d lt in omega arith);
       clauses_on = lists_All (All (IsOn w.vars)) cs (removed_All w.clauses cs place gone (λ x. All (IsOn w.vars) x.1) (All_lists (All (IsOn w.vars)) w.clauses kept.clauses_on));
@@ -93,7 +95,7 @@ work_deleted w kept c b put cs place gone =
 pub kept_not_put : (old new : WorkState) (x : Line) (stop : LineStop) → IsWork old → NotPut old new x stop → IsWork new
 kept_not_put old new x ProofFault kept was =
     let last : new.output.last ≡ old.output.last = ap (λ (s : LineState). s.last) was.put.state in
-    subst IsWork (sym was.state) (record { numbers = kept.numbers; given = λ k d lt. (let g = kept.given k d lt in omega arith); clauses_on = kept.clauses_on; units_on = kept.units_on; stack_on = kept.stack_on; distinct = kept.distinct })
+    subst IsWork (sym was.state) (record { unheld = kept.unheld; numbers = kept.numbers; given = λ k d lt. (let g = kept.given k d lt in omega arith); clauses_on = kept.clauses_on; units_on = kept.units_on; stack_on = kept.stack_on; distinct = kept.distinct })
 kept_not_put old new x Full kept was = subst IsWork (sym was.1) kept
 kept_not_put old new x Memory kept was = subst IsWork (sym was) kept
 
@@ -158,6 +160,7 @@ distinct_more (k ∷ us) l d n =
 
 pub work_listed : (w : WorkState) → IsWork w → (l : Literal) → IsOn w.vars l → has w.units l ≡ false → (us : List Literal) → us ≡ w.units ++ l ∷ [] → IsWork (record w { units = us })
 work_listed w kept l on new us is = subst (λ ks. IsWork (record w { units = ks })) (sym is) (record {
+  unheld = kept.unheld;
   numbers = kept.numbers;
   given = kept.given;
   clauses_on = kept.clauses_on;
@@ -191,6 +194,7 @@ work_listed_line w kept l on b number cs us new put cis is =
 -- one entry more on the stack
 pub work_pushed : (w : WorkState) → IsWork w → (l : Literal) (c : List Literal) → has c l ≡ true → All (IsOn w.vars) c → (S : List Fix) → S ≡ w.stack ++ record { lit = l; clause = c } ∷ [] → IsWork (record w { stack = S })
 work_pushed w kept l c holds on S is = subst (λ T. IsWork (record w { stack = T })) (sym is) (record {
+  unheld = kept.unheld;
   numbers = kept.numbers;
   given = kept.given;
   clauses_on = kept.clauses_on;

@@ -11,9 +11,11 @@ pub mod TableLemmas
 pub mod Known
 pub mod Stopping
 pub mod Filters
+pub mod Given
 pub mod Long
 pub mod Truths
 pub mod Stacking
 pub mod WiderClauses
 pub mod Validity
+pub mod Resuming
 pub mod Widening

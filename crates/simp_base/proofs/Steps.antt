@@ -1,13 +1,15 @@
 -- What a line of the work keeps of the journal that it stands over.
-use Rattle.std.proofs.Common.{◌≡◌, ◌≢◌, ◌↔◌, ℕ, zero, suc, ◌+◌, ◌||◌, Bool, true, false, List, [], ◌∷◌, ◌++◌, length, sym, refl, ap, subst, ◌∙◌, inl, inr, ⊎_elim, arith, Some, None, append_assoc, append-nil, length-append}
+use Rattle.std.proofs.Common.{◌≡◌, ◌≢◌, ◌↔◌, ◌⊎◌, ℕ, zero, suc, ◌+◌, ◌||◌, Bool, true, false, List, [], ◌∷◌, ◌++◌, length, sym, refl, ap, subst, ◌∙◌, inl, inr, ⊎_elim, arith, Some, None, append_assoc, append-nil, length-append}
 use Rattle.std.specs.List.{list_any, All, Contains, slice_get}
 use Rattle.std.specs.Option.{unwrap_or, option_map}
 use Rattle.std.specs.List.{fold}
-use Rattle.std.proofs.lemmas.Bool.{and_from, false≢true}
+use Rattle.std.proofs.lemmas.Bool.{and_from, false≢true, or_left, or_right, or_cases}
 use Rattle.std.proofs.lemmas.List.Elements.{All-append}
 use Rattle.std.proofs.lemmas.List.Folds.{list_any-append}
 use Rattle.sat_words.specs.Literal.{Literal, IsOn}
-use Rattle.sat_words.specs.Clause.{has, same_set, is_empty, clause_of, two_or_more}
+use Rattle.sat_words.specs.Clause.{has, InOrder, same_set, is_empty, clause_of, two_or_more}
+use Rattle.sat_words.proofs.Canonical.{same_clause}
+use Rattle.sat_words.proofs.Members.{same-refl}
 use Rattle.sat_words.specs.declared.line.Line.{Line}
 use Rattle.sat_words.specs.declared.line.Line.TheVariants.{Add as AddLine, Del as DelLine}
 use Rattle.rup_model.specs.declared.journal.Entry.{Entry}
@@ -17,12 +19,12 @@ use Rattle.rup_model.specs.Rup.{rup}
 use Rattle.rup_model.specs.Log.{Accepted, alive, is_valid, lits_of}
 use Rattle.rup_model.specs.Journal.{Book, spelled, formula_book, book_after, book, lines, lines_after, added, is_told, IsFit, LogSound}
 use Rattle.rup_model.specs.Opening.{is_rulers}
-use Rattle.rup_model.proofs.Lists.{In, In_any, any_In, In_append_left, In_append_right, In_map, map_In, Contains_In, In_Contains}
-use Rattle.sat_words.proofs.Insertion.{same_set-clause_of}
+use Rattle.rup_model.proofs.Lists.{In, In_any, any_In, In_append, In_append_left, In_append_right, In_map, map_In, In_has, has_In, Contains_In, In_Contains}
+use Rattle.sat_words.proofs.Insertion.{same_set-clause_of, InOrder-clause_of, has-clause_of}
 use Rattle.simp_base.proofs.Keeping.{only_told}
 use Rattle.rup_model.proofs.Sums.{put_here, put_else, at_put}
 use Rattle.rup_model.proofs.Sequences.{each_last}
-use Rattle.rup_model.proofs.Covers.{same_self, same_back}
+use Rattle.rup_model.proofs.Covers.{same_self, same_back, same_has}
 use Rattle.rup_model.proofs.Copies.{copies_any}
 use Rattle.rup_model.proofs.Units.{two_more}
 use Rattle.rup_model.proofs.Numbers.{spelled_same, journal_matches, clause_below, clause_copies, book_last, lines_last}
@@ -35,8 +37,8 @@ use Rattle.std.specs.Prelude.{Result, Ok, Err}
 use Rattle.drat_text.specs.JournalText.{Origin}
 use Rattle.drat_text.proofs.JournalLines.{has_text_next, has_text_cut}
 use Rattle.model_stack.specs.declared.stack.Fix.{Fix}
-use Rattle.simp_base.specs.WorkState.{WorkState, IsWork, known, lists, is_only, is_alive_unit}
-use Rattle.simp_base.specs.Log.{journal_of, Stands, HasLines, Continues}
+use Rattle.simp_base.specs.WorkState.{WorkState, IsWork, known, lists, is_only, is_alive_unit, is_unit}
+use Rattle.simp_base.specs.Log.{journal_of, IsPassedOver, Stands, HasLines, Continues}
 use Rattle.simp_base.specs.Calls.{ruler_adds, ruler_deletes, on_ok, NotPut, WasAdded, WasDeleted, IsListed, WasListed, entries_for, unit_entries}
 use Rattle.simp_base.proofs.Lists.{All_In, one_All, Contains_left, Contains_last, Contains_apart}
 use Rattle.simp_base.proofs.Validity.{left_alive, IsValidOver, rup_valid}
@@ -44,6 +46,53 @@ use Rattle.simp_base.proofs.Validity.{left_alive, IsValidOver, rup_valid}
 or_none : (b : Bool) → (b || false) ≡ b
 or_none true = refl
 or_none false = refl
+
+-- Units of a work
+
+-- a clause that is a unit
+pub unit_alive : (w : WorkState) (n : ℕ) (c : List Literal) (l : Literal) → Contains w.clauses (n, c) → c ≡ l ∷ [] → is_unit w l ≡ true
+unit_alive w n c l i is =
+    or_right (has w.units l) (is_alive_unit w l)
+    (any_In (is_only l) (lists w.clauses) c (In_map (λ (x : ℕ × List Literal). x.1) w.clauses (n, c) (Contains_In w.clauses (n, c) i)) (subst (λ (d : List Literal). is_only l d ≡ true) (sym is) (same-refl l)))
+
+-- a unit whose clause is alive has a number
+alive_number : (w : WorkState) (l : Literal) → is_alive_unit w l ≡ true → (n : ℕ) × Contains w.clauses (n, l ∷ [])
+alive_number w l alive =
+    let t = In_any (is_only l) (lists w.clauses) alive in
+    let u = map_In (λ (x : ℕ × List Literal). x.1) w.clauses t.0 t.1 in
+    (u.0.0, subst (λ (c : List Literal). Contains w.clauses (u.0.0, c)) (u.2 ∙ only_told l t.0 t.2) (In_Contains w.clauses u.0 u.1))
+
+-- with more clauses
+unit_left : (w : WorkState) (more : List (ℕ × List Literal)) (l : Literal) → is_unit w l ≡ true → is_unit (record w { clauses = w.clauses ++ more }) l ≡ true
+unit_left w more l h = elim (or_cases (has w.units l) (is_alive_unit w l) h) as (λ _. is_unit (record w { clauses = w.clauses ++ more }) l ≡ true) [
+  | inl listed ↦ or_left _ _ listed
+  | inr alive ↦ (let u = alive_number w l alive in unit_alive (record w { clauses = w.clauses ++ more }) u.0 (l ∷ []) l (Contains_left w.clauses more (u.0, l ∷ []) u.1) refl)
+]
+
+-- with one unit more
+listed_more : (w : WorkState) (l k : Literal) → is_unit w k ≡ true → is_unit (record w { units = w.units ++ l ∷ [] }) k ≡ true
+listed_more w l k h = elim (or_cases (has w.units k) (is_alive_unit w k) h) as (λ _. is_unit (record w { units = w.units ++ l ∷ [] }) k ≡ true) [
+  | inl listed ↦ or_left _ _ (In_has (w.units ++ l ∷ []) k (In_append_left w.units (l ∷ []) k (has_In w.units k listed)))
+  | inr alive ↦ or_right _ _ alive
+]
+
+-- a clause that is this literal as a set
+only_clause : (lits : List Literal) (l : Literal) → same_set (l ∷ []) lits ≡ true → clause_of lits ≡ l ∷ []
+only_clause lits l s =
+    sym (same_clause (l ∷ []) (clause_of lits) (InOrder-clause_of (l ∷ [])) (InOrder-clause_of lits) (λ k. same_has (l ∷ []) lits s k ∙ sym (has-clause_of lits k)))
+
+long_unit : (c : List Literal) (l : Literal) → two_or_more c ≡ true → c ≡ l ∷ [] → ⊥
+long_unit c l two is = false≢true (ap two_or_more (sym is) ∙ two)
+
+-- the last clause that was added, or the others
+told_apart : (G : List (List Literal)) (L : List Entry) (lits : List Literal) (K : List Entry) → added K ≡ added L ++ lits ∷ [] → (l : Literal) → is_told G K l ≡ true → (is_told G L l ≡ true) ⊎ (same_set (l ∷ []) lits ≡ true)
+told_apart G L lits K is l t =
+    let u = In_any (same_set (l ∷ [])) (G ++ added K) t in
+    elim (In_append (G ++ added L) (lits ∷ []) u.0 (subst (In u.0) (ap (λ (H : List (List Literal)). G ++ H) is ∙ sym (append_assoc G (added L) (lits ∷ []))) u.1)) as (λ _. (is_told G L l ≡ true) ⊎ (same_set (l ∷ []) lits ≡ true)) [
+      | inl old ↦ inl (any_In (same_set (l ∷ [])) (G ++ added L) u.0 old u.2)
+      | inr (inl e) ↦ inr (subst (λ (d : List Literal). same_set (l ∷ []) d ≡ true) (sym e) u.2)
+      | inr (inr z) ↦ absurd z
+    ]
 
 -- One entry more of the ruler's
 
@@ -84,7 +133,7 @@ module _ (o : Origin) (mine : List Entry) (w : WorkState) (h : Stands o mine w) 
         let was = h.lines in
         let put_output : LineState = with_line w.output x in
         subst (λ v. HasLines o (mine ++ e ∷ []) w.vars v) (sym put.state) (record {
-          entries = (let n = was.entries in let p = ap (λ L. length L) lines_next in let m = length-append (lines F J) (x ∷ []) in omega arith);
+          entries = (let n = was.entries in let p = ap (λ (K : List Entry). length K) grown_is in let m = length-append J (e ∷ []) in omega arith);
           last = ap (λ (k : Book). k.next) book_next ∙ next;
           whole = λ q. has_text_next o mine w.output put_output x (was.whole unspent) e one number (record { room = put.room; given = put.given; state = refl });
           short = λ q. absurd (false≢true (sym unspent ∙ q));
@@ -102,8 +151,10 @@ module _ (o : Origin) (mine : List Entry) (w : WorkState) (h : Stands o mine w) 
           on = h.on;
           ended = h.ended;
           held = h.held;
+          ordered = h.ordered;
           all = h.all;
           told = h.told;
+          every = h.every;
           lines = subst (λ v. HasLines o mine w.vars v) (sym failed.state) (record {
             entries = was.entries;
             last = was.last;
@@ -162,15 +213,29 @@ module _ (o : Origin) (mine : List Entry) (w : WorkState) (h : Stands o mine w) 
         ap (put (book FA JA).clause (book FA JA).next (Some (clause_of lits))) (sym a ∙ next) ∙ put_here (book FA JA).clause (book FA JA).next (Some (clause_of lits)) ∙ ap Some b))
         (Contains_apart w.clauses (number, clause_of lits) (n, c) k)
 
-    all_next : (n : ℕ) (c : List Literal) → (book FA (journal_of o (mine ++ ea ∷ []))).clause n ≡ Some c → Contains (w.clauses ++ (number, clause_of lits) ∷ []) (n, c)
+    ordered_next : (n : ℕ) (c : List Literal) → Contains (w.clauses ++ (number, clause_of lits) ∷ []) (n, c) → InOrder c
+    ordered_next n c k =
+        ⊎_elim
+        (λ (old : Contains w.clauses (n, c)). h.ordered n c old)
+        (λ (q : (number, clause_of lits) ≡ (n, c)). subst InOrder (ap (λ (p : ℕ × List Literal). p.1) q) (InOrder-clause_of lits))
+        (Contains_apart w.clauses (number, clause_of lits) (n, c) k)
+
+    all_next : (n : ℕ) (c : List Literal) → (book FA (journal_of o (mine ++ ea ∷ []))).clause n ≡ Some c → Contains (w.clauses ++ (number, clause_of lits) ∷ []) (n, c) ⊎ IsPassedOver w.unheld c
     all_next n c is =
-        at_put (book FA JA).clause (book FA JA).next (Some (clause_of lits)) (λ q. q ≡ Some c → Contains (w.clauses ++ (number, clause_of lits) ∷ []) (n, c)) n
+        at_put (book FA JA).clause (book FA JA).next (Some (clause_of lits)) (λ q. q ≡ Some c → Contains (w.clauses ++ (number, clause_of lits) ∷ []) (n, c) ⊎ IsPassedOver w.unheld c) n
         (λ here is_new.
         (let a : n ≡ number = here ∙ sym next in
         let b : clause_of lits ≡ c = cc in
-        subst (λ (p : ℕ × List Literal). Contains (w.clauses ++ (number, clause_of lits) ∷ []) p) (λ i. (sym a i, b i)) (Contains_last w.clauses (number, clause_of lits))))
-        (λ else is_old. Contains_left w.clauses ((number, clause_of lits) ∷ []) (n, c) (h.all n c is_old))
+        inl (subst (λ (p : ℕ × List Literal). Contains (w.clauses ++ (number, clause_of lits) ∷ []) p) (λ i. (sym a i, b i)) (Contains_last w.clauses (number, clause_of lits)))))
+        (λ else is_old. elim (h.all n c is_old) as (λ _. Contains (w.clauses ++ (number, clause_of lits) ∷ []) (n, c) ⊎ IsPassedOver w.unheld c) [ inl i ↦ inl (Contains_left w.clauses ((number, clause_of lits) ∷ []) (n, c) i) | inr p ↦ inr p ])
         (sym (ap (λ (b : Book). b.clause n) book_is) ∙ is)
+
+    -- a unit more, if the clause is one
+    every_next : (l : Literal) → is_told FA (journal_of o (mine ++ ea ∷ [])) l ≡ true → is_unit (record w { clauses = w.clauses ++ (number, clause_of lits) ∷ [] }) l ≡ true
+    every_next l t = elim (told_apart FA JA lits (journal_of o (mine ++ ea ∷ [])) added_grown l t) as (λ _. is_unit (record w { clauses = w.clauses ++ (number, clause_of lits) ∷ [] }) l ≡ true) [
+      | inl old ↦ unit_left w ((number, clause_of lits) ∷ []) l (h.every l old)
+      | inr one ↦ unit_alive (record w { clauses = w.clauses ++ (number, clause_of lits) ∷ [] }) number (clause_of lits) l (Contains_last w.clauses (number, clause_of lits)) (only_clause lits l one)
+    ]
 
     pub stands_added : (b : LineState) → w.output.spent ≡ false → All (IsOn w.vars) lits → PutLine w.output b (AddLine lits) number
         → Stands o (mine ++ ea ∷ []) (record w { clauses = w.clauses ++ (number, clause_of lits) ∷ []; ended = is_empty lits; output = b })
@@ -180,12 +245,17 @@ module _ (o : Origin) (mine : List Entry) (w : WorkState) (h : Stands o mine w) 
       on = subst (λ G. All (All (IsOn w.vars)) G) (sym (added-append mine (ea ∷ []))) (All-append (All (IsOn w.vars)) (added mine) (lits ∷ []) h.on (one_All (All (IsOn w.vars)) lits on));
       ended = ended_next;
       held = held_next;
+      ordered = ordered_next;
       all = all_next;
       told = all_told_next o mine w h ea (AddLine lits);
+      every = every_next;
       lines = has_lines_next o mine w h ea (AddLine lits) refl valid (record { numbered = next; names = tt }) going b number unspent line (let l = h.lines.last in omega arith);
     }
 
 -- A deletion
+
+one_clause : (o : Origin) (mine : List Entry) (w : WorkState) → Stands o mine w → (n : ℕ) (c d : List Literal) → Contains w.clauses (n, c) → Contains w.clauses (n, d) → c ≡ d
+one_clause o mine w h n c d i j = let e : Some c ≡ Some d = sym (h.held n c i) ∙ h.held n d j in cc
 
 module _ (o : Origin) (mine : List Entry) (w : WorkState) (h : Stands o mine w) (number : ℕ) (c : List Literal)
     (alive_c : Contains w.clauses (number, c)) (two : two_or_more c ≡ true) (going : w.ended ≡ false) where
@@ -217,6 +287,16 @@ module _ (o : Origin) (mine : List Entry) (w : WorkState) (h : Stands o mine w) 
     book_less : (n : ℕ) → (book FD (journal_of o (mine ++ ed ∷ []))).clause n ≡ put (book FD JD).clause number None n
     book_less n = ap (λ (b : Book). b.clause n) (book_next o mine w h ed (DelLine c))
 
+    -- a unit is no clause of two literals
+    every_left : (l : Literal) → is_told FD (journal_of o (mine ++ ed ∷ [])) l ≡ true → is_unit (record w { clauses = cs }) l ≡ true
+    every_left l t = elim (or_cases (has w.units l) (is_alive_unit w l) (h.every l (subst (λ (K : List (List Literal)). list_any (same_set (l ∷ [])) (FD ++ K) ≡ true) added_same t))) as (λ _. is_unit (record w { clauses = cs }) l ≡ true) [
+      | inl listed ↦ or_left _ _ listed
+      | inr alive ↦ (
+          let u = alive_number w l alive in
+          let ne : u.0 ≢ number = λ q. long_unit c l two (one_clause o mine w h number c (l ∷ []) alive_c (subst (λ (m : ℕ). Contains w.clauses (m, l ∷ [])) q u.1)) in
+          unit_alive (record w { clauses = cs }) u.0 (l ∷ []) l ((others u.0 (l ∷ [])).1 (u.1, ne)) refl)
+    ]
+
     pub stands_deleted : (b : LineState) → w.output.spent ≡ false → PutLine w.output b (DelLine c) 0 → Stands o (mine ++ ed ∷ []) (record w { clauses = cs; output = b })
     stands_deleted b unspent line = record {
       sound = sound_next o mine w h ed (DelLine c) one_del valid_del fit_del going;
@@ -224,19 +304,18 @@ module _ (o : Origin) (mine : List Entry) (w : WorkState) (h : Stands o mine w) 
       on = subst (λ G. All (All (IsOn w.vars)) G) (sym (added-append mine (ed ∷ []) ∙ append-nil (added mine))) h.on;
       ended = h.ended ∙ ap (list_any is_empty) (sym added_same);
       held = λ n d k. (let was = (others n d).0 k in book_less n ∙ put_else (book FD JD).clause number None n was.1 ∙ h.held n d was.0);
+      ordered = λ n d k. h.ordered n d ((others n d).0 k).0;
       all = λ n d is.
-          at_put (book FD JD).clause number None (λ q. q ≡ Some d → Contains cs (n, d)) n
+          at_put (book FD JD).clause number None (λ q. q ≡ Some d → Contains cs (n, d) ⊎ IsPassedOver w.unheld d) n
           (λ here none. absurd (cc))
-          (λ else is_old. (others n d).1 (h.all n d is_old, else))
+          (λ else is_old. elim (h.all n d is_old) as (λ _. Contains cs (n, d) ⊎ IsPassedOver w.unheld d) [ inl i ↦ inl ((others n d).1 (i, else)) | inr p ↦ inr p ])
           (sym (book_less n) ∙ is);
       told = all_told_next o mine w h ed (DelLine c);
+      every = every_left;
       lines = has_lines_next o mine w h ed (DelLine c) one_del valid_del fit_del going b 0 unspent line h.lines.last;
     }
 
 -- What each call keeps
-
-one_clause : (o : Origin) (mine : List Entry) (w : WorkState) → Stands o mine w → (n : ℕ) (c d : List Literal) → Contains w.clauses (n, c) → Contains w.clauses (n, d) → c ≡ d
-one_clause o mine w h n c d i j = let e : Some c ≡ Some d = sym (h.held n c i) ∙ h.held n d j in cc
 
 pub on_clause : (w : WorkState) → IsWork w → (n : ℕ) (c : List Literal) → Contains w.clauses (n, c) → All (IsOn w.vars) c
 on_clause w kept n c i = All_In (All (IsOn w.vars)) (lists w.clauses) c kept.clauses_on (In_map (λ (x : ℕ × List Literal). x.1) w.clauses (n, c) (Contains_In w.clauses (n, c) i))
@@ -358,7 +437,9 @@ stands_listed o mine w h l t = record {
   on = h.on;
   ended = h.ended;
   held = h.held;
+  ordered = h.ordered;
   all = h.all;
+  every = λ k e. listed_more w l k (h.every k e);
   told = All-append (λ k. is_told o.formula (journal_of o mine) k ≡ true) w.units (l ∷ []) h.told (one_All (λ k. is_told o.formula (journal_of o mine) k ≡ true) l t);
   lines = h.lines;
 }
@@ -411,7 +492,9 @@ stands_pushed o mine w h S = nothing_more o mine (record w { stack = S }) (recor
   on = h.on;
   ended = h.ended;
   held = h.held;
+  ordered = h.ordered;
   all = h.all;
   told = h.told;
+  every = h.every;
   lines = h.lines;
 })

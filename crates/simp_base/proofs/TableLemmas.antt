@@ -67,27 +67,13 @@ module _ (cells : List (ℕ × List Literal)) (places : List ℕ) (singles : Lis
   at_place number place x lt is e = (place, lt, get_or_default cells place (number, x.1) x lt ∙ sym is ∙ (λ i. (e i, x.1)))
 
   -- one clause more
-  module _ (number : ℕ) (clause : List Literal) (next : number ≡ length places) (more : List Bool) (wide_more : length more ≡ length singles)
+  module _ (number : ℕ) (clause : List Literal) (more : List Bool) (wide_more : length more ≡ length singles)
       (singles_more : (l : Literal) → code_of l < length singles → get_or more (code_of l) false ≡ (get_or singles (code_of l) false || is_only l clause))
       (ready : (l : Literal) → has clause l ≡ true → Contains (get_or notes (code_of l) []) number) where
-    placed_more : (k : ℕ) (d : ℕ × List Literal) → k < length (cells ++ (number, clause) ∷ []) → slice_get (places ++ length cells ∷ []) (get_or (cells ++ (number, clause) ∷ []) k d).0 ≡ Some k
-    placed_more k d lt = dite (ℕ_discrete k (length cells))
-        (λ (e : k ≡ length cells). (let n = length-append places (length cells ∷ []) in
-        subst (λ (m : ℕ). slice_get (places ++ length cells ∷ []) m ≡ Some k) (sym (ap (λ (x : ℕ × List Literal). x.0) (ap (λ j. get_or (cells ++ (number, clause) ∷ []) j d) e ∙ end cells (number, clause) d) ∙ next))
-        (slice_get_read (places ++ length cells ∷ []) (length (places ++ length cells ∷ [])) (length places) k refl (omega arith) (sym (end places (length cells) k ∙ sym e)))))
-        (λ (ne : k ≢ length cells). (let m = length-append cells ((number, clause) ∷ []) in let lo : k < length cells = omega arith in
-        let was = t.placed k d lo in let within = slice_get_within places (get_or cells k d).0 k was in let n = length-append places (length cells ∷ []) in
-        subst (λ (x : ℕ × List Literal). slice_get (places ++ length cells ∷ []) x.0 ≡ Some k) (sym (get_or_append_left cells ((number, clause) ∷ []) d k lo))
-        (slice_get_read (places ++ length cells ∷ []) (length (places ++ length cells ∷ [])) (get_or cells k d).0 k refl (omega arith)
-        (sym (get_or_append_left places (length cells ∷ []) k (get_or cells k d).0 within ∙ get_or_from_slice_get places (get_or cells k d).0 k k was)))))
-      where
-        end : {X : Type 0} (xs : List X) (x d : X) → get_or (xs ++ x ∷ []) (length xs) d ≡ x
-        end [] x d = refl
-        end (y ∷ xs) x d = end xs x d
-
-    pub table_more : IsTable (cells ++ (number, clause) ∷ []) (places ++ length cells ∷ []) more notes
-    table_more = record {
-      placed = placed_more;
+    with_places : (after : List ℕ) → ((k : ℕ) (d : ℕ × List Literal) → k < length (cells ++ (number, clause) ∷ []) → slice_get after (get_or (cells ++ (number, clause) ∷ []) k d).0 ≡ Some k)
+        → IsTable (cells ++ (number, clause) ∷ []) after more notes
+    with_places after placed = record {
+      placed = placed;
       alone = λ l lt.
           singles_more l (omega (arith, wide_more, lt)) ∙ ap (λ b. b || is_only l clause) (t.alone l (omega (arith, wide_more, lt)))
           ∙ sym (ap (list_any (is_only l)) (map-append (λ (x : ℕ × List Literal). x.1) cells ((number, clause) ∷ [])) ∙ list_any-append (is_only l) (lists cells) (clause ∷ []) ∙ ap (λ b. list_any (is_only l) (lists cells) || b) (or_none (is_only l clause)));
@@ -101,6 +87,48 @@ module _ (cells : List (ℕ × List Literal)) (places : List ℕ) (singles : Lis
         or_none : (b : Bool) → (b || false) ≡ b
         or_none true = refl
         or_none false = refl
+
+    end : {X : Type 0} (xs : List X) (x d : X) → get_or (xs ++ x ∷ []) (length xs) d ≡ x
+    end [] x d = refl
+    end (y ∷ xs) x d = end xs x d
+
+    -- its number is that of the last
+    module _ (k : ℕ) (d : ℕ × List Literal) (e : k ≡ length cells) where
+      number_at_end : (get_or (cells ++ (number, clause) ∷ []) k d).0 ≡ number
+      number_at_end = ap (λ (x : ℕ × List Literal). x.0) (ap (λ j. get_or (cells ++ (number, clause) ∷ []) j d) e ∙ end cells (number, clause) d)
+
+    -- it comes under the next number
+    module _ (next : number ≡ length places) where
+      placed_more : (k : ℕ) (d : ℕ × List Literal) → k < length (cells ++ (number, clause) ∷ []) → slice_get (places ++ length cells ∷ []) (get_or (cells ++ (number, clause) ∷ []) k d).0 ≡ Some k
+      placed_more k d lt = dite (ℕ_discrete k (length cells))
+          (λ (e : k ≡ length cells). (let n = length-append places (length cells ∷ []) in
+          subst (λ (m : ℕ). slice_get (places ++ length cells ∷ []) m ≡ Some k) (sym (number_at_end k d e ∙ next))
+          (slice_get_read (places ++ length cells ∷ []) (length (places ++ length cells ∷ [])) (length places) k refl (omega arith) (sym (end places (length cells) k ∙ sym e)))))
+          (λ (ne : k ≢ length cells). (let m = length-append cells ((number, clause) ∷ []) in let lo : k < length cells = omega arith in
+          let was = t.placed k d lo in let within = slice_get_within places (get_or cells k d).0 k was in let n = length-append places (length cells ∷ []) in
+          subst (λ (x : ℕ × List Literal). slice_get (places ++ length cells ∷ []) x.0 ≡ Some k) (sym (get_or_append_left cells ((number, clause) ∷ []) d k lo))
+          (slice_get_read (places ++ length cells ∷ []) (length (places ++ length cells ∷ [])) (get_or cells k d).0 k refl (omega arith)
+          (sym (get_or_append_left places (length cells ∷ []) k (get_or cells k d).0 within ∙ get_or_from_slice_get places (get_or cells k d).0 k k was)))))
+
+      pub table_more : IsTable (cells ++ (number, clause) ∷ []) (places ++ length cells ∷ []) more notes
+      table_more = with_places (places ++ length cells ∷ []) placed_more
+
+    -- it comes under a number that no other has
+    module _ (within : number < length places) (free : (c : List Literal) → Contains cells (number, c) → ⊥) where
+      placed_put : (k : ℕ) (d : ℕ × List Literal) → k < length (cells ++ (number, clause) ∷ []) → slice_get (set places number (length cells)) (get_or (cells ++ (number, clause) ∷ []) k d).0 ≡ Some k
+      placed_put k d lt = dite (ℕ_discrete k (length cells))
+          (λ (e : k ≡ length cells). (let n = length-set places number (length cells) in
+          subst (λ (m : ℕ). slice_get (set places number (length cells)) m ≡ Some k) (sym (number_at_end k d e))
+          (slice_get_read (set places number (length cells)) (length (set places number (length cells))) number k refl (omega arith) (e ∙ sym (get_or-set_same places number (length cells) k within)))))
+          (λ (ne : k ≢ length cells). (let m = length-append cells ((number, clause) ∷ []) in let lo : k < length cells = omega arith in
+          let was = t.placed k d lo in let low = slice_get_within places (get_or cells k d).0 k was in let n = length-set places number (length cells) in
+          let apart : (get_or cells k d).0 ≢ number = λ q. free (get_or cells k d).1 (k, lo, get_or_default cells k (number, (get_or cells k d).1) d lo ∙ (λ i. (q i, (get_or cells k d).1))) in
+          subst (λ (x : ℕ × List Literal). slice_get (set places number (length cells)) x.0 ≡ Some k) (sym (get_or_append_left cells ((number, clause) ∷ []) d k lo))
+          (slice_get_read (set places number (length cells)) (length (set places number (length cells))) (get_or cells k d).0 k refl (omega arith)
+          (sym (get_or-set_other places number (get_or cells k d).0 (length cells) k apart ∙ get_or_from_slice_get places (get_or cells k d).0 k k was)))))
+
+      pub table_put : IsTable (cells ++ (number, clause) ∷ []) (set places number (length cells)) more notes
+      table_put = with_places (set places number (length cells)) placed_put
 
   -- one clause less
   module _ (left : List (ℕ × List Literal)) (place : ℕ) (r : Removed cells left place) (long : (d : ℕ × List Literal) → two_or_more (get_or cells place d).1 ≡ true) where

@@ -1,25 +1,26 @@
 -- Which lines are valid over whatever a work stands over.
 use Rattle.std.proofs.Common.{◌≡◌, ◌<◌, ℕ, true, List, [], ◌∷◌, refl, sym, ap, subst, inl, inr, ⊎_elim, arith, Option, Some, None}
-use Rattle.std.proofs.lemmas.Bool.{or_left, or_right, cases_Bool}
-use Rattle.sat_words.specs.Literal.{Literal}
-use Rattle.sat_words.specs.Clause.{same_set}
+use Rattle.std.proofs.lemmas.Bool.{or_left, or_right, cases_Bool, false≢true}
+use Rattle.sat_words.specs.Literal.{Literal, IsOn, opposite}
+use Rattle.sat_words.specs.Clause.{has, same_set}
 use Rattle.sat_words.specs.declared.line.Line.TheVariants.{Add as AddLine}
 use Rattle.rup_model.specs.declared.journal.Entry.{Entry}
 use Rattle.rup_model.specs.Basics.{one_if}
 use Rattle.rup_model.specs.Rup.{rup, rat}
 use Rattle.rup_model.specs.Log.{copies, alive, is_valid}
 use Rattle.rup_model.specs.Journal.{book, copies_at, copies_in, lines, is_told}
-use Rattle.rup_model.proofs.Lists.{In, In_append, In_map, map_In, Contains_In, In_Contains}
+use Rattle.rup_model.proofs.Lists.{In, In_append, In_map, map_In, has_In, Contains_In, In_Contains}
 use Rattle.rup_model.proofs.Sums.{below_some}
-use Rattle.rup_model.proofs.Covers.{Covered, same_self}
+use Rattle.rup_model.proofs.Covers.{Covered, has_same, same_self}
 use Rattle.rup_model.proofs.Copies.{copies-cons, copies_some}
 use Rattle.rup_model.proofs.Numbers.{journal_matches, clause_copies, rup_alive_sets}
 use Rattle.rup_model.proofs.Told.{told_alive}
 use Rattle.drat_text.specs.JournalText.{Origin}
 use Rattle.simp_base.specs.WorkState.{WorkState, known, lists, unit_clauses}
 use Rattle.simp_base.specs.Log.{journal_of, Stands}
+use Rattle.simp_base.specs.Calls.{IsAboveUnheld}
 use Rattle.simp_base.proofs.Lists.{All_In}
-use Rattle.simp_base.proofs.WiderClauses.{rat_covered}
+use Rattle.simp_base.proofs.WiderClauses.{rat_beside}
 
 -- what the log leaves alive
 abbrev pub left_alive : Origin → List Entry → List (List Literal)
@@ -72,14 +73,19 @@ copy_at d (Some c) h = elim (cases_Bool (same_set d c)) as (λ _. (e : List Lite
   | inr n ↦ absurd (let z : one_if (same_set d c) ≡ 0 = ap one_if n in omega arith)
 ]
 
--- those alive are among the work's clauses
-alive_lists : (o : Origin) (mine : List Entry) (w : WorkState) → Stands o mine w → Covered (left_alive o mine) (lists w.clauses)
-alive_lists o mine w h d i =
+-- those alive that have a literal above those of clauses not held are among the work's clauses
+alive_lists : (o : Origin) (mine : List Entry) (w : WorkState) → Stands o mine w → (l : Literal) → w.unheld < l.var → (d : List Literal) → In d (left_alive o mine) → has d l ≡ true
+    → (c : List Literal) × In c (lists w.clauses) × (same_set d c ≡ true)
+alive_lists o mine w h l above d i there =
     let m = journal_matches o.formula (journal_of o mine) h.sound.fits in
     let many : 0 < copies_in d (book o.formula (journal_of o mine)) = (let e = m.same_copies d in let k = copies_In d (left_alive o mine) i in omega arith) in
     let t = below_some (book o.formula (journal_of o mine)).next (λ n. copies_at d ((book o.formula (journal_of o mine)).clause n)) many in
     let u = copy_at d ((book o.formula (journal_of o mine)).clause t.0) t.2 in
-    (u.0, In_map (λ (c : ℕ × List Literal). c.1) w.clauses (t.0, u.0) (Contains_In w.clauses (t.0, u.0) (h.all t.0 u.0 u.1)), u.2)
+    elim (h.all t.0 u.0 u.1) as (λ _. (c : List Literal) × In c (lists w.clauses) × (same_set d c ≡ true)) [
+      | inl held ↦ (u.0, In_map (λ (c : ℕ × List Literal). c.1) w.clauses (t.0, u.0) (Contains_In w.clauses (t.0, u.0) held), u.2)
+      | inr passed ↦ absurd (let on = All_In (IsOn w.unheld) u.0 l passed.on (has_In u.0 l (has_same d u.0 l u.2 there)) in let high = on.high in omega arith)
+    ]
 
-pub rat_valid : (w : WorkState) (lits : List Literal) → rat (lists w.clauses) lits ≡ true → IsValidOver w lits
-rat_valid w lits r o mine h = or_right _ _ (rat_covered (lists w.clauses) (left_alive o mine) lits (lists_alive o mine w h) (alive_lists o mine w h) r)
+pub rat_valid : (w : WorkState) (lits : List Literal) → IsAboveUnheld w lits → rat (lists w.clauses) lits ≡ true → IsValidOver w lits
+rat_valid w [] above r o mine h = absurd (false≢true r)
+rat_valid w (p ∷ c) above r o mine h = or_right _ _ (rat_beside (lists w.clauses) (left_alive o mine) p c (lists_alive o mine w h) (λ d i there. alive_lists o mine w h (opposite p) above d i there) r)

@@ -33,6 +33,7 @@ each_on_wider v u le G on k d lt = all_on_wider v u le (get_or G k d) (on k d lt
 module _ (w : WorkState) (u : ℕ) (le : w.vars ≤ u) where
   pub work_wider : IsWork w → IsWork (record w { vars = u })
   work_wider kept = record {
+    unheld = (let low = kept.unheld in omega arith);
     numbers = kept.numbers;
     given = kept.given;
     clauses_on = each_on_wider w.vars u le (lists w.clauses) kept.clauses_on;
@@ -48,8 +49,10 @@ module _ (w : WorkState) (u : ℕ) (le : w.vars ≤ u) where
     on = each_on_wider w.vars u le _ h.on;
     ended = h.ended;
     held = h.held;
+    ordered = h.ordered;
     all = h.all;
     told = h.told;
+    every = h.every;
     lines = record {
       entries = h.lines.entries;
       last = h.lines.last;

@@ -56,10 +56,18 @@ resolves_same G H p c d e forth s r =
       ])
     ]
 
+-- a clause that is RAT over some clauses is RAT over others that have the same sets, but for some without the negation of the pivot
+pub rat_beside : (G H : List (List Literal)) (p : Literal) (c : List Literal) → Covered G H
+    → ((e : List Literal) → In e H → has e (opposite p) ≡ true → (d : List Literal) × In d G × (same_set e d ≡ true)) → rat G (p ∷ c) ≡ true → rat H (p ∷ c) ≡ true
+unfolding rat_on
+rat_beside G H p c forth back r =
+    In_all (resolves H p (p ∷ c)) H (λ e i.
+    elim (cases_Bool (has e (opposite p))) as (λ _. resolves H p (p ∷ c) e ≡ true) [
+      | inr none ↦ or_left _ _ (ap not none)
+      | inl some ↦ (let t = back e i some in resolves_same G H p (p ∷ c) t.0 e forth (same_back e t.0 t.2) (all_In (resolves G p (p ∷ c)) G t.0 r t.1))
+    ])
+
 -- a clause that is RAT over some clauses is RAT over the same sets
 pub rat_covered : (G H : List (List Literal)) (c : List Literal) → Covered G H → Covered H G → rat G c ≡ true → rat H c ≡ true
-unfolding rat_on
 rat_covered G H [] forth back r = absurd (false≢true r)
-rat_covered G H (p ∷ c) forth back r =
-    In_all (resolves H p (p ∷ c)) H (λ e i.
-    (let t = back e i in resolves_same G H p (p ∷ c) t.0 e forth (same_back e t.0 t.2) (all_In (resolves G p (p ∷ c)) G t.0 r t.1)))
+rat_covered G H (p ∷ c) forth back r = rat_beside G H p c forth (λ e i _. back e i) r

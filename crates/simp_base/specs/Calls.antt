@@ -46,6 +46,11 @@ NotPut old new x Memory = new ≡ old
 
 -- Calls
 
+-- the first literal is on a variable that no clause has which is alive and not held
+abbrev pub IsAboveUnheld : WorkState → List Literal → Type 0
+IsAboveUnheld w [] = ⊤
+IsAboveUnheld w (p ∷ c) = w.unheld < p.var
+
 -- the line that adds the clause is put, or not
 abbrev pub WasAddedLine : LineState → LineState → List Literal → Result ℕ LineStop → Type 0
 WasAddedLine old new lits result = WasPut old new (AddLine lits) result

@@ -1,5 +1,6 @@
 pub mod WorkState
 pub mod Log
+pub mod Resumed
 pub mod Calls
 pub mod Causes
 pub mod Lifted

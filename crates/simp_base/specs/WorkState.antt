@@ -7,10 +7,11 @@ use Rattle.sat_words.specs.FormulaData.{FormulaData}
 use Rattle.model_stack.specs.declared.stack.Fix.{Fix}
 use Rattle.drat_text.specs.LineState.{LineState}
 
--- the number of variables; the clauses alive, each with its number; the units listed; the reconstruction stack; whether the
--- empty clause was added; the line output
+-- the number of variables, and how many of them clauses that are alive and not held may have; the clauses held, each with its
+-- number; the units listed; the reconstruction stack; whether the empty clause was added; the line output
 pub record WorkState : Type 0 where
   pub vars : ℕ
+  pub unheld : ℕ
   pub clauses : List (ℕ × List Literal)
   pub units : List Literal
   pub stack : List Fix
@@ -60,8 +61,10 @@ pub record IsFixOn (vars : ℕ) (fix : Fix) : Type 0 where
   pub lit : IsOn vars fix.lit
   pub clause : All (IsOn vars) fix.clause
 
--- each clause has a number of its own, which was given; all literals are on the variables; no unit is listed twice
+-- each clause has a number of its own, which was given; all literals are on the variables, those of clauses not held among them;
+-- no unit is listed twice
 pub record IsWork (w : WorkState) : Type 0 where
+  pub unheld : w.unheld ≤ w.vars
   pub numbers : HaveOwnNumbers w.clauses
   pub given : All (λ c. c.0 ≤ w.output.last) w.clauses
   pub clauses_on : All (All (IsOn w.vars)) (lists w.clauses)
@@ -78,4 +81,8 @@ numbered n (c ∷ F) = (n, clause_of c) ∷ numbered (suc n) F
 
 -- nothing was done yet
 abbrev pub begun : FormulaData → LineState → WorkState
-begun F out = record { vars = F.vars; clauses = numbered 1 F.clauses; units = []; stack = []; ended = false; output = out }
+begun F out = record { vars = F.vars; unheld = 0; clauses = numbered 1 F.clauses; units = []; stack = []; ended = false; output = out }
+
+-- it goes on with these clauses, units and entries of the stack; other clauses that are alive may have any of the variables
+abbrev pub resumed : ℕ → List (ℕ × List Literal) → List Literal → List Fix → LineState → WorkState
+resumed vars cells units stack out = record { vars = vars; unheld = vars; clauses = cells; units = units; stack = stack; ended = false; output = out }

@@ -77,15 +77,18 @@ fn remove_at(cells: &mut Vec<(u64, Clause)>, place: usize)
 }
 
 impl ClauseTable {
-    /// No clause, over the variables up to this one; the first number is 1.
-    pub(crate) fn new(alloc: Global, vars: u32) -> Result<Self, AllocError>
+    /// No clause, over the variables up to this one; the next number is the one after the last.
+    pub(crate) fn new(alloc: Global, vars: u32, last: u64) -> Result<Self, AllocError>
         ensures clauses { IfOk result (λ t. t.clauses ≡ []) }
-        ensures next { IfOk result (λ t. t.next ≡ 1) }
+        ensures next { IfOk result (λ t. t.next ≡ last + 1) }
         ensures codes { IfOk result (λ t. t.codes ≡ 2 * (vars + 1)) }
     {
         let occurrences = Occurrences::blank(alloc, vars)?;
         let alone = vec![in alloc; false; 2 * (vars as usize + 1)]?;
-        let places = vec![in alloc; 0; 1]?;
+        let Some(next) = (last as usize).checked_add(1) else {
+            return Err(AllocError);
+        };
+        let places = vec![in alloc; 0; next]?;
         Ok(ClauseTable {
             alloc,
             cells: Vec::new(alloc),
@@ -184,6 +187,23 @@ impl ClauseTable {
         self.places.push_reserved(self.cells.len());
         note_alone(&mut self.alone, clause.lits());
         self.cells.push_reserved((number, clause));
+    }
+
+    /// Keeps the clause under a number before the next one, which no other clause has. After an error no clause came.
+    pub(crate) fn insert(&mut self, number: u64, clause: Clause) -> Result<(), AllocError>
+        requires given { number < self.old.next }
+        requires free { (c : List Literal) → Contains self.old.clauses (number, c) → ⊥ }
+        requires codes { All (λ l. code_of l < self.old.codes) clause }
+        ensures clauses { OnOk result (self.new.clauses ≡ self.old.clauses ++ (number, clause) ∷ []) }
+        ensures next { self.new.next ≡ self.old.next }
+        ensures codes { self.new.codes ≡ self.old.codes }
+    {
+        self.cells.reserve(1)?;
+        self.occurrences.note_all(clause.lits(), number)?;
+        self.places[number as usize] = self.cells.len();
+        note_alone(&mut self.alone, clause.lits());
+        self.cells.push_reserved((number, clause));
+        Ok(())
     }
 
     /// Removes the clause with this number.

@@ -21,4 +21,4 @@ pub use laws::{
 };
 pub use part::takes_part;
 pub use tautology::is_tautology;
-pub use work::{Parts, Run, Work};
+pub use work::{LogEnd, Parts, Run, Work};

@@ -1,6 +1,6 @@
 // The units listed, found by literal.
 ghost use Rattle.std.specs.Prelude.{◌≡◌, ◌<◌, ◌≤◌, ◌+◌, ◌*◌, [], ◌∷◌, ◌++◌, IfOk, OnOk, All};
-ghost use Rattle.sat_words.specs.Literal.{code_of};
+ghost use Rattle.sat_words.specs.Literal.{IsOn, code_of};
 ghost use Rattle.sat_words.specs.Clause.{has};
 
 use sat_words::Lit;
@@ -44,6 +44,20 @@ impl UnitTable {
             list: Vec::new(alloc),
             listed,
         })
+    }
+
+    /// These units, in this order.
+    pub(crate) fn over(alloc: Global, vars: u32, units: &[Lit]) -> Result<Self, AllocError>
+        requires { All (IsOn vars) units.now }
+        ensures units { IfOk result (λ t. t.units ≡ units.now) }
+        ensures codes { IfOk result (λ t. t.codes ≡ 2 * (vars + 1)) }
+    {
+        let mut table = UnitTable::new(alloc, vars)?;
+        for unit in units {
+            table.make_room()?;
+            table.push(*unit);
+        }
+        Ok(table)
     }
 
     /// The units, each once.

@@ -11,8 +11,12 @@ pub use left::{model_of, numbers_of};
 pub use models::{ASSIGNMENTS, assignment_of, has_no_model, is_model_of, models_lift};
 
 #[cfg(test)]
+mod again;
+#[cfg(test)]
 mod plain;
 #[cfg(test)]
 mod ruler;
+#[cfg(test)]
+mod tallied;
 #[cfg(test)]
 mod trials;

@@ -90,6 +90,9 @@ fn adds_by_rat(alloc: Global, work: &mut Written, lits: &[Lit]) -> Result<bool, 
     requires more { is_empty lits.now ≡ false }
     ensures { IfOk result (λ yes. yes ≡ true → (work.new.output.spent ≡ false) × (work.new.ended ≡ false) × (work.new.vars ≡ work.old.vars)) }
 {
+    if lits[0].var() <= work.unheld_vars() {
+        return Ok(false);
+    }
     if !is_rat_there(alloc, work, lits)? {
         return Ok(false);
     }

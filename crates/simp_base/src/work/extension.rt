@@ -4,7 +4,7 @@ ghost use Rattle.sat_words.specs.Literal.{IsOn};
 ghost use Rattle.rup_model.specs.Rup.{rat};
 ghost use Rattle.simp_base.specs.WorkState.{IsWork, lists};
 ghost use Rattle.simp_base.specs.Log.{Continues, Grows};
-ghost use Rattle.simp_base.specs.Calls.{ruler_adds, on_ok, WasAdded, WasWidened};
+ghost use Rattle.simp_base.specs.Calls.{ruler_adds, on_ok, IsAboveUnheld, WasAdded, WasWidened};
 
 use crate::work::Work;
 use drat_text::{LineOut, LineStop};
@@ -15,14 +15,16 @@ const LAST_VAR: u32 = 1 << 30;
 
 impl<L: LineOut> Work<L> {
     /// Adds a clause that is a resolution asymmetric tautology (RAT; Järvisalo, Heule and Biere 2012) on its first literal
-    /// over the clauses alive: its resolvents with all of them on that literal follow by unit propagation. Answers its
-    /// number. The line has the literals in the order given, so that a reader of the log takes the same first one.
+    /// over the clauses alive: its resolvents with all of them on that literal follow by unit propagation. The clauses alive are
+    /// those held, if no other has the literal's variable. Answers its number. The line has the literals in the order given, so
+    /// that a reader of the log takes the same first one.
     ///
     /// Models of the clauses before need not be models of the one that is added.
     pub fn add_rat(&mut self, lits: &[Lit]) -> Result<u64, LineStop>
         requires unspent { self.old.output.spent ≡ false }
         requires going { self.old.ended ≡ false }
         requires rat { rat (lists self.old.clauses) lits.now ≡ true }
+        requires above { IsAboveUnheld self.old lits.now }
         requires on { All (IsOn self.old.vars) lits.now }
         ensures added { WasAdded self.old self.new lits.now result }
         ensures log { Continues (on_ok result (ruler_adds (self.old.output.last + 1) lits.now ∷ [])) self.old self.new }

@@ -1,4 +1,4 @@
-use Rattle.std.proofs.Common.{◌∷◌, [], ℕ, List, map, sym, subst, Contains}
+use Rattle.std.proofs.Common.{◌∷◌, [], ℕ, List, map, sym, subst, arith, Contains}
 use Rattle.std.specs.List.{All}
 use Rattle.sat_words.specs.Literal.{IsOn, opposite}
 use Rattle.simp_add.specs.Stages.{Grown, WasRemoved, set_at}
@@ -11,6 +11,9 @@ add_pair-requires-clause-rat g c = first_rat c.args.work.now c.args.fresh c.args
 
 pub add_pair-requires-2-clause-rat : goal.add_pair-requires-2-clause-rat
 add_pair-requires-2-clause-rat g c = second_rat c.args.work.now c.args.fresh c.args.lit c.args.partner c.args.shared.now.firsts.items c.args.shared.now.gone.items c.requires.replaceable c.add_pair.new.work c.in-Ok.ensures.grown
+
+pub add_pair-requires-2-clause-above : goal.add_pair-requires-2-clause-above
+add_pair-requires-2-clause-above g c = let same = c.in-Ok.ensures.grown.unheld in let lt = c.requires.replaceable.above in omega arith
 
 pub add_pair-requires-2-clause-on : goal.add_pair-requires-2-clause-on
 add_pair-requires-2-clause-on g c =

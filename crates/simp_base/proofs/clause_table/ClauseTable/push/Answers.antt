@@ -15,7 +15,7 @@ invariant_of-self c =
     subst (λ (cs : List (ℕ × List Literal)). IsTable cs c.push_reserved.new.self.items c.note_alone.new.alone.items i.occurrences) (sym c.push_reserved-2.ensures.items)
     (subst (λ (ps : List ℕ). IsTable (i.cells.items ++ (c.args.number, c.args.clause) ∷ []) ps c.note_alone.new.alone.items i.occurrences)
     (sym (c.push_reserved.ensures.items ∙ ap (λ n. i.places.items ++ n ∷ []) place))
-    (table_more i.cells.items i.places.items i.alone.items i.occurrences c.self.invariant c.args.number c.args.clause next c.note_alone.new.alone.items wide
+    (table_more i.cells.items i.places.items i.alone.items i.occurrences c.self.invariant c.args.number c.args.clause c.note_alone.new.alone.items wide
     (λ l lt. c.note_alone.ensures.noted l (omega (arith, lt, i.alone.ok)) ∙ ap (λ x. get_or i.alone.items (code_of l) false || is_only l x) c.lits.ensures.value)
     (λ l h. subst (λ (t : ClauseData). Contains (get_or t.noted (code_of l) []) c.args.number) (sym view)
-    (subst (λ (m : ℕ). Contains (get_or c.args.self.now.noted (code_of l) []) m) (sym c.requires.next) (c.requires.ready.noted l h)))))
+    (subst (λ (m : ℕ). Contains (get_or c.args.self.now.noted (code_of l) []) m) (sym c.requires.next) (c.requires.ready.noted l h))) next))

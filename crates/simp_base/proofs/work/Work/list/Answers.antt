@@ -9,7 +9,7 @@ use Rattle.simp_base.proofs.work.Work.list.Goals as goal
 pub invariant_of-self-then-is_alone : goal.invariant_of-self-then-is_alone
 invariant_of-self-then-is_alone g c =
     let i = c.self.inside in
-    let w : WorkState = record { vars = i.vars; clauses = i.clauses.clauses; units = i.units.units; stack = i.stack; ended = i.ended; output = g.L.LineOut.told i.output } in
+    let w : WorkState = record { vars = i.vars; unheld = i.unheld; clauses = i.clauses.clauses; units = i.units.units; stack = i.stack; ended = i.ended; output = g.L.LineOut.told i.output } in
     let on : IsOn i.vars c.args.lit = subst (λ (s : WorkState). IsOn s.vars c.args.lit) (sym c.self.view_is) c.requires.on in
     let new : has i.units.units c.args.lit ≡ false = sym c.is_listed.ensures ∙ c.if-is_listed.false in (
       work_listed w c.self.invariant.0 c.args.lit on new c.push.new.self.units (c.push.ensures.units ∙ ap (λ us. us ++ c.args.lit ∷ []) c.make_room.ensures.units),
@@ -25,7 +25,7 @@ returns-then-is_alone-clause-work g c = (invariant_of-self-then-is_alone g c).0
 pub invariant_of-self-in-Ok-add_line : goal.invariant_of-self-in-Ok-add_line
 invariant_of-self-in-Ok-add_line g c =
     let i = c.self.inside in
-    let w : WorkState = record { vars = i.vars; clauses = i.clauses.clauses; units = i.units.units; stack = i.stack; ended = i.ended; output = g.L.LineOut.told i.output } in
+    let w : WorkState = record { vars = i.vars; unheld = i.unheld; clauses = i.clauses.clauses; units = i.units.units; stack = i.stack; ended = i.ended; output = g.L.LineOut.told i.output } in
     let on : IsOn i.vars c.args.lit = subst (λ (s : WorkState). IsOn s.vars c.args.lit) (sym c.self.view_is) c.requires.on in
     let new : has i.units.units c.args.lit ≡ false = sym c.is_listed.ensures ∙ c.if-is_listed.false in
     let b : LineState = g.L.LineOut.told c.add_line.new.output in

@@ -24,7 +24,7 @@ push-requires-clause-codes g c =
 pub invariant_of-self-in-Ok-add_line : goal.invariant_of-self-in-Ok-add_line
 invariant_of-self-in-Ok-add_line g c =
     let i = c.self.inside in
-    let w : WorkState = record { vars = i.vars; clauses = i.clauses.clauses; units = i.units.units; stack = i.stack; ended = i.ended; output = g.L.LineOut.told i.output } in
+    let w : WorkState = record { vars = i.vars; unheld = i.unheld; clauses = i.clauses.clauses; units = i.units.units; stack = i.stack; ended = i.ended; output = g.L.LineOut.told i.output } in
     let on : All (IsOn i.vars) c.args.lits.now = subst (λ (s : WorkState). All (IsOn s.vars) c.args.lits.now) (sym c.self.view_is) c.requires.on in
     let b : LineState = g.L.LineOut.told c.add_line.new.output in
     let n : ℕ = c.in-Ok-add_line.number in

@@ -10,7 +10,7 @@ use Rattle.simp_base.proofs.work.Work.take_clause.Goals as goal
 pub invariant_of-self : goal.invariant_of-self
 invariant_of-self g c =
     let i = c.self.inside in
-    let w : WorkState = record { vars = i.vars; clauses = i.clauses.clauses; units = i.units.units; stack = i.stack; ended = i.ended; output = g.L.LineOut.told i.output } in
+    let w : WorkState = record { vars = i.vars; unheld = i.unheld; clauses = i.clauses.clauses; units = i.units.units; stack = i.stack; ended = i.ended; output = g.L.LineOut.told i.output } in
     let line = c.in_ok-line.ensures.line in
     let b = g.L.LineOut.told c.put.new.self in
     let put : PutLine w.output b (DelLine line.0) 0 = put_del w.output b c.in_ok-line.line c.in-Ok.field-0 line.0 line.2 c.in-Ok.ensures.put in
@@ -28,7 +28,7 @@ returns-in-Ok-clause-work g c = (invariant_of-self g c).0
 pub returns-in-Ok-clause-deleted : goal.returns-in-Ok-clause-deleted
 returns-in-Ok-clause-deleted g c =
     let i = c.self.inside in
-    let w : WorkState = record { vars = i.vars; clauses = i.clauses.clauses; units = i.units.units; stack = i.stack; ended = i.ended; output = g.L.LineOut.told i.output } in
+    let w : WorkState = record { vars = i.vars; unheld = i.unheld; clauses = i.clauses.clauses; units = i.units.units; stack = i.stack; ended = i.ended; output = g.L.LineOut.told i.output } in
     let line = c.in_ok-line.ensures.line in
     let alive : Contains w.clauses (c.args.number, line.0) = subst (λ (s : WorkState). Contains s.clauses (c.args.number, line.0)) (sym c.self.view_is) line.1 in
     let b = g.L.LineOut.told c.put.new.self in

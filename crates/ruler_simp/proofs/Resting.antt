@@ -1,0 +1,148 @@
+-- What is left can be gone on from.
+use Rattle.std.proofs.Common.{Less, None, ◌≡◌, ◌∙◌, ◌⊎◌, ℕ, zero, suc, ◌+◌, ◌<◌, ◌≤◌, ◌||◌, cond, true, false, List, [], ◌∷◌, ◌++◌, map, length, get_or, Some, refl, sym, ap, subst, inl, inr, arith, length-append, ⊎_elim, Contains}
+use Rattle.std.specs.Prelude.{Ok}
+use Rattle.std.specs.List.{list_any, All, AllByRecursion, range_with_len}
+use Rattle.std.specs.Ordering.{nat_cmp}
+use Rattle.std.specs.Option.{option_and_then}
+use Rattle.std.proofs.lemmas.Bool.{or_parts}
+use Rattle.std.proofs.lemmas.Bool.Decides.{nat_tests}
+use Rattle.std.proofs.lemmas.List.Elements.{All-append}
+use Rattle.std.proofs.lemmas.List.Folds.{list_any-append}
+use Rattle.std.specs.List.Sorted.{IsStrictlySortedBy}
+use Rattle.sat_words.specs.Literal.{Literal, IsOn}
+use Rattle.sat_words.specs.Clause.{has, InOrder, is_empty, distinct_lits}
+use Rattle.sat_words.specs.FormulaData.{FormulaData}
+use Rattle.rup_model.specs.declared.journal.Entry.{Entry}
+use Rattle.rup_model.specs.Journal.{book, added, is_told, LogSound}
+use Rattle.rup_model.specs.Opening.{Start, IsStart, AreAscending, start_at, program_opening}
+use Rattle.rup_model.proofs.Lists.{In, In_map, map_In, In_append_left, In_append_right, Contains_In, In_Contains}
+use Rattle.rup_model.proofs.Additions.{added-append}
+use Rattle.rup_model.proofs.ProgramOpening.{rulers_ordered, program_ascends}
+use Rattle.model_stack.specs.declared.stack.Fix.{Fix}
+use Rattle.drat_text.specs.LineState.{LineState}
+use Rattle.simp_base.specs.WorkState.{HaveOwnNumbers, IsFixOn}
+use Rattle.simp_base.specs.Parts.{takes_part}
+use Rattle.simp_base.specs.Resumed.{Resumes}
+use Rattle.simp_base.proofs.Lists.{All_In, In_All}
+use Rattle.simp_base.proofs.Widening.{each_on_wider}
+use Rattle.ruler_simp.specs.declared.ruling.Simplified.{Simplified}
+use Rattle.ruler_simp.specs.declared.ruling.Outcome.TheVariants.{Simplified as LeftOver}
+use Rattle.ruler_simp.specs.declared.rounds.Schedule.{Schedule}
+use Rattle.ruler_simp.specs.Left.{start_of}
+use Rattle.ruler_simp.specs.Ruled.{Ruled}
+use Rattle.ruler_simp.specs.Again.{ResumesAs, RuledAgain}
+use Rattle.ruler_simp.proofs.Numbered.{Cell}
+use Rattle.ruler_simp.proofs.Units.{In_filter_map, opened_unit}
+use Rattle.ruler_simp.proofs.Leaving.{good}
+use Rattle.simp_base.specs.WorkState.{WorkState}
+
+-- Numbers that rise differ
+
+above_all : (k : ℕ) (xs : List Cell) → AllByRecursion (λ y. nat_cmp k y ≡ Less) (map (λ (x : Start). x.number) (map start_of xs)) → (j : ℕ) (d : Cell) → j < length xs → nat_cmp k (get_or xs j d).0 ≡ Less
+above_all k [] all j d lt = absurd (omega arith)
+above_all k (x ∷ xs) all zero d lt = all.0
+above_all k (x ∷ xs) all (suc j) d lt = above_all k xs all.1 j d (omega arith)
+
+not_itself : (a b : ℕ) → nat_cmp a b ≡ Less → a ≡ b → ⊥
+not_itself a b e q = grind (arith, nat_tests)
+
+own_numbers : (xs : List Cell) → AreAscending (map start_of xs) → HaveOwnNumbers xs
+unfolding IsStrictlySortedBy
+own_numbers [] up i j d ij jl q = absurd (omega arith)
+own_numbers (x ∷ xs) up i zero d ij jl q = absurd (omega arith)
+own_numbers (x ∷ xs) up zero (suc j) d ij jl q = not_itself x.0 (get_or xs j d).0 (above_all x.0 xs up.0 j d (omega arith)) q
+own_numbers (x ∷ xs) up (suc i) (suc j) d ij jl q = own_numbers xs up.1 i j d (omega arith) (omega arith) q
+
+-- Parts of lists
+
+All-left : {X : Type 0} (P : X → Type 0) (xs ys : List X) → All P (xs ++ ys) → All P xs
+All-left P xs ys all = In_All P xs (λ x i. All_In P (xs ++ ys) x all (In_append_left xs ys x i))
+
+All-right : {X : Type 0} (P : X → Type 0) (xs ys : List X) → All P (xs ++ ys) → All P ys
+All-right P xs ys all = In_All P ys (λ x i. All_In P (xs ++ ys) x all (In_append_right xs ys x i))
+
+-- Start clauses
+
+In_range : (a k n : ℕ) → a ≤ n → n < a + k → In n (range_with_len a k)
+In_range a zero n lo hi = absurd (omega arith)
+In_range a (suc k) n lo hi = ⊎_elim (λ (e : a ≡ n). inl e) (λ (lt : a + 1 ≤ n). inr (In_range (a + 1) k n lt (omega arith))) (either a n lo)
+  where
+    either : (b m : ℕ) → b ≤ m → (b ≡ m) ⊎ (b + 1 ≤ m)
+    either zero zero le = inl refl
+    either zero (suc m) le = inr (omega arith)
+    either (suc b) zero le = absurd (omega arith)
+    either (suc b) (suc m) le = ⊎_elim (λ (e : b ≡ m). inl (ap suc e)) (λ (h : b + 1 ≤ m). inr (omega arith)) (either b m (omega arith))
+
+module _ (F : List (List Literal)) (K : List Entry) (cells : List Cell) (starts : map start_of cells ≡ (program_opening F K).starts) where
+  start_held : All (IsStart (book F K)) (map start_of cells) → (n : ℕ) (c : List Literal) → Contains cells (n, c) → (book F K).clause n ≡ Some c
+  start_held each n c h = (All_In (IsStart (book F K)) (map start_of cells) (start_of (n, c)) each (In_map start_of cells (n, c) (Contains_In cells (n, c) h))).alive
+
+  all_starts : (n : ℕ) (c : List Literal) → (book F K).clause n ≡ Some c → takes_part c ≡ true → 1 ≤ n → n < 1 + length (F ++ added K) → Contains cells (n, c)
+  all_starts n c is part lo hi =
+      let one : start_at (book F K) n ≡ Some (record { number = n; lits = c }) =
+      ap (λ o. option_and_then (λ d. cond (takes_part d) (Some (record { number = n; lits = d })) None) o) is ∙ ap (λ t. cond t (Some (record { number = n; lits = c })) None) part in
+      let i = In_filter_map (start_at (book F K)) (range_with_len 1 (length (F ++ added K))) n (record { number = n; lits = c }) (In_range 1 (length (F ++ added K)) n lo hi) one in
+      let t = map_In start_of cells (record { number = n; lits = c }) (subst (λ (ss : List Start). In (record { number = n; lits = c }) ss) (sym starts) i) in
+      subst (λ (x : Cell). Contains cells x) (λ j. ((t.2 j).number, (t.2 j).lits)) (In_Contains cells t.0 t.1)
+
+-- A journal after which they are those of the program's opening
+
+module _ (F : List (List Literal)) (K : List Entry) (vars : ℕ) (cells : List Cell) (units : List Literal) (stack : List Fix) (out : LineState)
+    (sound : LogSound F K) (none : list_any is_empty F ≡ false) (unended : list_any is_empty (added K) ≡ false)
+    (starts : map start_of cells ≡ (program_opening F K).starts) (each : All (IsStart (book F K)) (map start_of cells)) (ordered : (n : ℕ) (c : List Literal) → Contains cells (n, c) → InOrder c)
+    (told : All (λ l. is_told F K l ≡ true) units) (are : (l : Literal) → has units l ≡ has (program_opening F K).units l) (distinct : distinct_lits units ≡ true)
+    (formula_on : All (All (IsOn vars)) F) (added_on : All (All (IsOn vars)) (added K)) (stack_on : All (IsFixOn vars) stack)
+    (entries : out.entries ≡ length K) (last : (book F K).next ≡ out.last + 1) where
+  pub resumes : Resumes F vars cells units stack out K
+  resumes = record {
+    sound = sound;
+    going = list_any-append is_empty F (added K) ∙ (λ i. none i || unended i);
+    numbers = own_numbers cells (subst AreAscending (sym starts) (program_ascends F K));
+    held = start_held F K cells starts each;
+    ordered = ordered;
+    all = λ n c is part. (
+        let t = good F K none unended n c is in
+        let m = length-append F (added K) in
+        all_starts F K cells starts n c is part t.0 (let lt = t.1 in omega arith));
+    told = told;
+    every = λ l t. are l ∙ opened_unit F K l t;
+    distinct = distinct;
+    on = All-append (All (IsOn vars)) F (added K) formula_on added_on;
+    stack_on = stack_on;
+    entries = entries;
+    last = last;
+  }
+
+pub left_resumes : (F : FormulaData) (schedule : Schedule) (old new : LineState) (s : Simplified) → All (All (IsOn F.vars)) F.clauses → (was : Ruled F schedule old new (Ok (LeftOver s)))
+    → Resumes F.clauses s.vars s.start.items s.units.items s.stack new was.journal
+left_resumes F schedule old new s on was =
+    let h = was.answer.0 in
+    let out : new ≡ was.work.output = was.output in
+    let wide : F.vars ≤ s.vars = (let v = was.has_vars in let m = was.more in omega arith) in
+    resumes F.clauses was.journal s.vars s.start.items s.units.items s.stack new
+    was.stands.sound h.going h.opens.rulers_part.going h.starts h.opens.starts
+    (λ n c i. rulers_ordered F.clauses was.journal was.stands.rulers n c (start_held F.clauses was.journal s.start.items h.starts h.opens.starts n c i))
+    h.opens.told h.units h.opens.distinct
+    (each_on_wider F.vars s.vars wide F.clauses on)
+    (subst (λ (v : ℕ). All (All (IsOn v)) (added was.journal)) (sym was.has_vars) was.stands.on)
+    h.on.stack
+    (ap (λ (x : LineState). x.entries) out ∙ was.stands.lines.entries)
+    (was.stands.lines.last ∙ ap (λ (x : LineState). x.last + 1) (sym out))
+
+pub left_resumes_again : (F : List (List Literal)) (schedule : Schedule) (start : WorkState) (new : LineState) (s : Simplified) (was : RuledAgain F schedule start new (Ok (LeftOver s))) (J : List Entry) → ResumesAs F start J
+    → Resumes F s.vars s.start.items s.units.items s.stack new (J ++ was.entries)
+left_resumes_again F schedule start new s was J r =
+    let h = (was.answer J r).0 in
+    let st = was.stands J r in
+    let out : new ≡ was.work.output = was.output in
+    let wide : start.vars ≤ s.vars = (let v = was.has_vars in let m = was.more in omega arith) in
+    let parts = or_parts (list_any is_empty F) (list_any is_empty (added J)) (sym (list_any-append is_empty F (added J)) ∙ r.going) in
+    resumes F (J ++ was.entries) s.vars s.start.items s.units.items s.stack new
+    st.sound parts.0 h.opens.going h.starts h.opens.starts h.ordered h.opens.told h.units h.opens.distinct
+    (each_on_wider start.vars s.vars wide F (All-left (All (IsOn start.vars)) F (added J) r.on))
+    (subst (λ (G : List (List Literal)). All (All (IsOn s.vars)) G) (sym (added-append J was.entries))
+    (All-append (All (IsOn s.vars)) (added J) (added was.entries) (each_on_wider start.vars s.vars wide (added J) (All-right (All (IsOn start.vars)) F (added J) r.on))
+    (subst (λ (v : ℕ). All (All (IsOn v)) (added was.entries)) (sym was.has_vars) st.on)))
+    h.on.stack
+    (ap (λ (x : LineState). x.entries) out ∙ st.lines.entries)
+    (st.lines.last ∙ ap (λ (x : LineState). x.last + 1) (sym out))

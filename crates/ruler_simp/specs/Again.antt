@@ -1,0 +1,64 @@
+-- What going on with a formula promises: its rings have written into the journal, and the ruler works again.
+use Rattle.std.specs.Prelude.{◌≡◌, ◌≤◌, ◌^◌, ℕ, false, true, List, ◌++◌, map, All, Contains, Result, Ok, Err}
+use Rattle.sat_words.specs.Literal.{Literal}
+use Rattle.sat_words.specs.Clause.{has, InOrder}
+use Rattle.rup_model.specs.declared.journal.Entry.{Entry}
+use Rattle.rup_model.specs.Log.{Refutes}
+use Rattle.rup_model.specs.Journal.{lines}
+use Rattle.rup_model.specs.Opening.{OpensAfter, program_opening}
+use Rattle.model_stack.specs.declared.stack.Fix.{Fix}
+use Rattle.model_stack.specs.Extend.{Lifts}
+use Rattle.drat_text.specs.LineState.{LineState}
+use Rattle.drat_text.specs.declared.stop.LineStop.{LineStop}
+use Rattle.simp_base.specs.WorkState.{WorkState, known}
+use Rattle.simp_base.specs.Log.{Stands}
+use Rattle.simp_base.specs.Resumed.{Resumes}
+use Rattle.simp_base.specs.Causes.{HasOutputCause}
+use Rattle.ruler_simp.specs.declared.ruling.Simplified.{Simplified}
+use Rattle.ruler_simp.specs.declared.ruling.Outcome.{Outcome}
+use Rattle.ruler_simp.specs.declared.ruling.Outcome.TheVariants.{Simplified as LeftOver, Refuted as NoModel}
+use Rattle.ruler_simp.specs.declared.rounds.Schedule.{Schedule}
+use Rattle.ruler_simp.specs.Rounds.{SimplifiedTo}
+use Rattle.ruler_simp.specs.Left.{start_of, left_clauses}
+use Rattle.ruler_simp.specs.Ruled.{AreOn, IsSound, IsUnended, run_of, HasVars}
+
+-- the work goes on from this journal of the formula
+abbrev pub ResumesAs : List (List Literal) → WorkState → List Entry → Type 0
+ResumesAs F w journal = Resumes F w.vars w.clauses w.units w.stack w.output journal
+
+-- the stack grew at its end, and each model of what is left, mended by what came, is one of the clauses and units before
+pub record LiftsOn (start : WorkState) (s : Simplified) : Type 0 where
+  pub fixes : List Fix
+  pub stack : s.stack ≡ start.stack ++ fixes
+  pub lifts : Lifts (known start) (left_clauses s) fixes
+
+-- after this journal the start clauses, in their order, and the units are those of the program's opening; each start clause has its
+-- literals in order; models lift; all are on the variables that are left
+pub record IsSimplifiedAgain (F : List (List Literal)) (start : WorkState) (journal : List Entry) (s : Simplified) : Type 0 where
+  pub opens : OpensAfter F (record { journal = journal; starts = map start_of s.start.items; units = s.units.items })
+  pub starts : map start_of s.start.items ≡ (program_opening F journal).starts
+  pub units : (l : Literal) → has s.units.items l ≡ has (program_opening F journal).units l
+  pub ordered : (n : ℕ) (c : List Literal) → Contains s.start.items (n, c) → InOrder c
+  pub lifts : LiftsOn start s
+  pub on : AreOn s.vars s
+
+-- what an answer tells of the formula, of the whole journal, and of the output before and after
+abbrev pub IsAnswerAgain : List (List Literal) → WorkState → List Entry → LineState → Result Outcome LineStop → Type 0
+IsAnswerAgain F start journal new (Ok (LeftOver s)) = IsSimplifiedAgain F start journal s × IsSound start.output new
+IsAnswerAgain F start journal new (Ok NoModel) = Refutes F (lines F journal) × IsSound start.output new
+IsAnswerAgain F start journal new (Err stop) = HasOutputCause start.output new stop × IsUnended journal
+
+-- the simplifiers ran over what the work went on from, in the rounds of this schedule, and left a work and entries; after any journal
+-- that the work goes on from, the work stands over the journal and these entries, and the answer is what they came to; there are
+-- more variables only if the schedule has additions
+pub record RuledAgain (F : List (List Literal)) (schedule : Schedule) (start : WorkState) (new : LineState) (result : Result Outcome LineStop) : Type 0 where
+  pub entries : List Entry
+  pub work : WorkState
+  pub ran : SimplifiedTo schedule start work (run_of result) entries
+  pub stands : (J : List Entry) → ResumesAs F start J → Stands (record { formula = F; journal = J; output = start.output }) entries work
+  pub more : start.vars ≤ work.vars
+  pub few : start.vars ≤ 2 ^ 30 → work.vars ≤ 2 ^ 30
+  pub vars : schedule.additions ≡ false → work.vars ≡ start.vars
+  pub has_vars : HasVars work.vars result
+  pub output : new ≡ work.output
+  pub answer : (J : List Entry) → ResumesAs F start J → IsAnswerAgain F start (J ++ entries) new result

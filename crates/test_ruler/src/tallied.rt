@@ -1,0 +1,74 @@
+// Lines beside a tally of how far the log has come.
+ghost use Rattle.std.specs.Prelude.{◌≡◌};
+
+use drat_text::{LineOut, LineStop};
+use sat_words::Line;
+use simp_base::LogEnd;
+use std::marker::Model;
+
+/// A line output, and how far its log has come.
+#[derive(Drop)]
+pub(crate) struct Tallied<L: LineOut> {
+    lines: L,
+    end: LogEnd,
+}
+
+impl<L: LineOut> Model for Tallied<L> {
+    ghost use Rattle.std.specs.Prelude.{◌≡◌};
+    ghost use Rattle.drat_text.specs.LineState.{LineState};
+
+    ghost Value = { LineState };
+
+    ghost view = { λ t. L.told t.lines };
+
+    ghost invariant = { λ t. (t.end.entries ≡ (L.told t.lines).entries) × (t.end.last ≡ (L.told t.lines).last) };
+}
+
+impl<L: LineOut> Tallied<L> {
+    /// Lines of which none was put yet, for a formula of this many clauses.
+    pub(crate) fn new(lines: L, clauses: u64) -> Self
+        requires blank { (L.told lines).entries ≡ 0 }
+        requires last { (L.told lines).last ≡ clauses }
+        ensures { result ≡ L.told lines }
+    {
+        Tallied {
+            lines,
+            end: LogEnd {
+                entries: 0,
+                last: clauses,
+            },
+        }
+    }
+
+    /// How far the log has come.
+    pub(crate) fn end(&self) -> LogEnd
+        ensures entries { result.entries ≡ self.now.entries }
+        ensures last { result.last ≡ self.now.last }
+    {
+        self.end
+    }
+
+    /// The lines alone.
+    pub(crate) fn into_lines(self) -> L
+        ensures { L.told result ≡ self }
+    {
+        let Tallied { lines, .. } = self;
+        lines
+    }
+}
+
+impl<L: LineOut> LineOut for Tallied<L> {
+    ghost told = { λ t. t };
+
+    fn put(&mut self, line: &Line) -> Result<u64, LineStop> {
+        let number = match self.lines.put(line) {
+            Ok(number) => number,
+            Err(stop) => return Err(stop),
+        };
+        self.end.entries += 1;
+        if let Line::Add(_) = line {
+            self.end.last = number;
+        }
+        Ok(number)
+    }
+}

@@ -261,11 +261,34 @@ def check_proof(clauses, proof, binary=False):
     return ended
 
 
-def lemmas_shown(proof, binary):
-    """The fewest and the most lemmas of rings that never reduced, in a proof that is theirs alone: each clause of two literals or more
-    is one, and a unit is one or came otherwise."""
-    added = [literals for deletes, literals in (binary_lines(proof) if binary else text_lines(proof)) if not deletes]
-    return sum(len(literals) > 1 for literals in added), len(added)
+def propagated(clauses):
+    """The literals that unit propagation alone makes true."""
+    true = set()
+    while True:
+        before = len(true)
+        for clause in clauses:
+            rest = [literal for literal in clause if -literal not in true]
+            if len(rest) == 1:
+                true.add(rest[0])
+        if len(true) == before:
+            return true
+
+
+def lemmas_shown(clauses, proof, binary, rings):
+    """The fewest and the most lemmas of rings that never reduced, in a proof that is theirs alone. A clause of two literals or more is
+    a lemma, and so is a unit that propagation had not made true. Any other unit of one ring came by propagation; of several rings it may
+    be a lemma of one that had not seen the others' clauses."""
+    alive = [frozenset(clause) for clause in clauses]
+    fewest = most = 0
+    for deletes, literals in binary_lines(proof) if binary else text_lines(proof):
+        if deletes:
+            alive.remove(frozenset(literals))
+            continue
+        is_lemma = len(literals) > 1 or literals[0] not in propagated(alive)
+        fewest += is_lemma
+        most += is_lemma or rings > 1
+        alive.append(frozenset(literals))
+    return fewest, most
 
 
 def check_model(variables, clauses, lines):
@@ -302,9 +325,9 @@ def check_no_room(out, err):
         raise Wrong("status 8 with %r on standard error and %r printed" % (err, out))
 
 
-def check_answer(variables, clauses, status, out, err, proof, satisfiable, checked=False, limit=None, narrow=False, binary=False, alone=False):
+def check_answer(variables, clauses, status, out, err, proof, satisfiable, checked=False, limit=None, narrow=False, binary=False, rings=None):
     """`limit` is how many lemmas the rings may learn together, if that was asked for, `narrow` says that there are few words for clauses,
-    `binary` that the proof is in binary, `alone` that the rings alone wrote it."""
+    `binary` that the proof is in binary, `rings` how many rings wrote it if nothing else did."""
     if status == 8 and narrow:
         check_no_room(out, err)
         check_proof(clauses, proof, binary)
@@ -334,9 +357,10 @@ def check_answer(variables, clauses, status, out, err, proof, satisfiable, check
     elif status == 0 and limit is not None:
         if lines != ["s UNKNOWN"] or ended:
             raise Wrong("status 0 with another answer or with a refutation")
-        fewest, most = lemmas_shown(proof, binary)
-        if alone and not fewest <= limit <= most:
-            raise Wrong("status 0 after %d to %d lemmas, and the limit is %d" % (fewest, most, limit))
+        if rings is not None:
+            fewest, most = lemmas_shown(clauses, proof, binary, rings)
+            if not fewest <= limit <= most:
+                raise Wrong("status 0 after %d to %d lemmas, and the limit is %d" % (fewest, most, limit))
     else:
         raise Wrong("status %d" % status)
 
@@ -398,7 +422,7 @@ def run(program, folder, variables, clauses, satisfiable, text, from_file, optio
         options.numbers["--conflicts"],
         options.numbers["--words"] is not None,
         options.binary,
-        not options.simplified and all(len(clause) > 1 for clause in clauses),
+        options.numbers["--threads"] if not options.simplified and all(len(set(clause)) > 1 for clause in clauses) else None,
     )
     more = has_more_variables(variables, proof, options.binary)
     if more and not (options.adds and options.simplified):
@@ -560,9 +584,12 @@ def try_itself():
     must_catch("a text in place of a binary proof", lambda: check_proof(clauses, b"1 0\n0\n", True))
     must_catch("a binary line cut short", lambda: check_proof(clauses, b"a\2\0a", True))
     must_catch("a number in two groups for one", lambda: check_proof(clauses, b"a\x82\0\0", True))
-    check_answer(2, clauses, 0, "s UNKNOWN\n", "", b"1 0\n", False, limit=1, alone=True)
-    must_catch("a lemma too few", lambda: check_answer(2, clauses, 0, "s UNKNOWN\n", "", b"1 0\n", False, limit=2, alone=True))
-    must_catch("a lemma too many", lambda: check_answer(2, clauses, 0, "s UNKNOWN\n", "", b"1 -2 0\n1 2 0\n", False, limit=1, alone=True))
+    check_answer(2, clauses, 0, "s UNKNOWN\n", "", b"1 0\n", False, limit=1, rings=1)
+    check_answer(2, clauses, 0, "s UNKNOWN\n", "", b"1 0\n2 0\n", False, limit=1, rings=1)
+    check_answer(2, clauses, 0, "s UNKNOWN\n", "", b"1 0\n2 0\n", False, limit=2, rings=2)
+    must_catch("a lemma too few", lambda: check_answer(2, clauses, 0, "s UNKNOWN\n", "", b"1 0\n", False, limit=2, rings=4))
+    must_catch("a lemma too many", lambda: check_answer(2, clauses, 0, "s UNKNOWN\n", "", b"1 -2 0\n1 2 0\n", False, limit=1, rings=4))
+    must_catch("a unit told as a lemma", lambda: check_answer(2, clauses, 0, "s UNKNOWN\n", "", b"1 0\n2 0\n", False, limit=2, rings=1))
     check_model(2, [[1, -2]], ["v 1 2 0"])
     must_catch("a wrong model", lambda: check_model(2, [[1, -2]], ["v -1 2 0"]))
     must_catch("a variable left out", lambda: check_model(2, [[1]], ["v 1 0"]))

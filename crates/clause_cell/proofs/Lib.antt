@@ -5,3 +5,4 @@ pub mod Joins
 pub mod InBlocks
 pub mod OneBlock
 pub mod Steps
+pub mod Starting

@@ -1,11 +1,11 @@
 //! One block of holes.
 ghost use Rattle.std.specs.Prelude.{◌≡◌, ◌<◌, ◌≤◌, ◌+◌, ◌/◌, ◌^◌, ◌==◌, true, nat_le, IfOk, OnOk, IfErr, OnErr, Some, [], ◌∷◌, length, take, drop};
-ghost use Rattle.clause_cell.specs.Free.{first_fit, without_fit, with_range, largest, is_clear, hole_at, range};
+ghost use Rattle.clause_cell.specs.Free.{first_fit, without_fit, with_range, largest, is_clear, len_from, hole_at, range};
 ghost use Rattle.clause_cell.specs.Blocks.{end_of};
 ghost use Rattle.clause_cell.specs.declared.holes.HoleStop.TheVariants.{Memory};
 
 use crate::holes::{Hole, HoleStop};
-use crate::sorted::{are_clear, cut, longest, put_back};
+use crate::sorted::{are_clear, cut, len_from, longest, put_back};
 use std::alloc::Global;
 use std::marker::Model;
 
@@ -94,6 +94,13 @@ impl Block {
         ensures { result ≡ is_clear first len self.now }
     {
         are_clear(self.holes.as_slice(), first, len)
+    }
+
+    /// The length of the hole that begins at the word, if one does.
+    pub fn len_from(&self, first: u64) -> Option<u64>
+        ensures { result ≡ len_from first self.now }
+    {
+        len_from(self.holes.as_slice(), first)
     }
 
     /// Takes the front of the first hole that is long enough.

@@ -1,6 +1,6 @@
 //! Which words are free.
 ghost use Rattle.std.specs.Prelude.{◌≡◌, ◌<◌, ◌≤◌, ◌+◌, ◌^◌, true, false, IfOk, OnOk, IfErr, OnErr, Some, [], ◌∷◌, position, nat_le, length, ℕ, ◌≢◌};
-ghost use Rattle.clause_cell.specs.Free.{first_fit, without_fit, with_range, largest, is_clear, hole_at, range, whole};
+ghost use Rattle.clause_cell.specs.Free.{first_fit, without_fit, with_range, largest, is_clear, len_from, hole_at, range, whole};
 ghost use Rattle.clause_cell.specs.Blocks.{holes_of, block_at, end_of, NoneEmpty, AreBlocks, IsHome, halved};
 ghost use Rattle.clause_cell.specs.declared.holes.HoleStop.TheVariants.{NoHole, Memory};
 
@@ -299,6 +299,17 @@ impl Holes {
         ensures { result ≡ is_clear first len self.now }
     {
         are_clear(self.blocks.as_slice(), first, len)
+    }
+
+    /// The length of the hole that begins at this word, if one does.
+    pub fn len_from(&self, first: u64) -> Option<u64>
+        ensures { result ≡ len_from first self.now }
+    {
+        let blocks = self.blocks.as_slice();
+        if blocks.is_empty() {
+            return None;
+        }
+        blocks[home(blocks, first)].len_from(first)
     }
 
     /// The length of the longest hole, 0 if there is none.

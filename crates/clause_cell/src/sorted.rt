@@ -1,6 +1,6 @@
 //! Holes in one vector, in the order of their places.
 ghost use Rattle.std.specs.Prelude.{◌≡◌, ◌<◌, ◌≤◌, ◌+◌, ◌^◌, ◌≢◌, true, false, OnOk, OnErr, IfErr, Some, None, position, nat_le, nat_lt, not, ◌&&◌, length, slice_set};
-ghost use Rattle.clause_cell.specs.Free.{first_fit, without_fit, with_range, largest, is_apart, is_clear, end_at, hole_at, SkipTo, range};
+ghost use Rattle.clause_cell.specs.Free.{first_fit, without_fit, with_range, largest, is_apart, is_clear, len_from, end_at, hole_at, SkipTo, range};
 ghost use Rattle.clause_cell.specs.Sides.{IsSide};
 ghost use Rattle.std.specs.List.{remove};
 ghost use Rattle.clause_cell.specs.declared.holes.HoleStop.TheVariants.{Memory};
@@ -77,6 +77,18 @@ fn begins_at(items: &[Hole], i: usize, word: u64) -> bool
     ensures no { result ≡ false → i < length items.now → (hole_at items.now i).first ≢ word }
 {
     i < items.len() && items[i].first == word
+}
+
+/// The length of the hole that begins at the word, if one does.
+pub fn len_from(items: &[Hole], first: u64) -> Option<u64>
+    requires { is_apart 0 items.now ≡ true }
+    ensures { result ≡ len_from first items.now }
+{
+    let i = before(items, first);
+    if begins_at(items, i, first) {
+        return Some(items[i].len);
+    }
+    None
 }
 
 /// What a range touches: the holes on both sides, one of them, or none.

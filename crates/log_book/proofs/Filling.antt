@@ -1,6 +1,6 @@
 -- A book that is filled through the bound of a line output.
 use Rattle.io_edge.specs.declared.edge.Sink.{Ghosts}
-use Rattle.std.proofs.Common.{◌≡◌, ◌∙◌, ℕ, ◌<◌, Bool, true, false, List, [], ◌++◌, ◌≤◌, length, Some, None, refl, sym, ap, subst, append-nil, arith, true≢false}
+use Rattle.std.proofs.Common.{◌≡◌, ◌∙◌, ℕ, ◌+◌, ◌<◌, Bool, true, false, List, [], ◌∷◌, ◌++◌, ◌≤◌, length, length-append, Some, None, refl, sym, ap, subst, append-nil, arith, true≢false}
 use Rattle.std.specs.Prelude.{is_some}
 use Rattle.std.specs.declared.option.Option.{Option}
 use Rattle.std.specs.Io.KnownBytes.{append_known}
@@ -10,8 +10,14 @@ use Rattle.sat_words.specs.Literal.{Literal}
 use Rattle.sat_words.specs.declared.line.Line.{Line}
 use Rattle.sat_words.specs.declared.line.ProofFormat.{ProofFormat}
 use Rattle.sat_words.specs.declared.shared.TheConstants.{MAX_ENTRIES}
+use Rattle.rup_model.specs.declared.journal.Round.{Round as RoundStart}
 use Rattle.rup_model.specs.declared.journal.Entry.{Entry}
-use Rattle.rup_model.specs.Journal.{lines}
+use Rattle.rup_model.specs.declared.journal.Entry.TheVariants.{Round}
+use Rattle.rup_model.specs.Journal.{Book as Numbers, lines}
+use Rattle.rup_model.proofs.Numbers.{book_last, lines_last}
+use Rattle.drat_text.specs.Text.{CanBeSpelled}
+use Rattle.drat_text.specs.JournalText.{Origin}
+use Rattle.drat_text.proofs.JournalLines.{has_text_still}
 use Rattle.drat_text.specs.Spelling.{spelling, proof_bytes}
 use Rattle.drat_text.specs.LineState.{LineState, with_lines}
 use Rattle.sat_words.specs.declared.line.Line.TheVariants.{Add, Del}
@@ -22,7 +28,7 @@ use Rattle.share_rule.specs.declared.Layout.{Layout}
 use Rattle.share_rule.specs.Books.{HasLog}
 use Rattle.log_book.specs.declared.book.Book.{Book}
 use Rattle.log_book.specs.Kept.{HoldsText}
-use Rattle.log_book.specs.Books.{no_byte, no_line, begun, account_of, IsNew, AreAlike, IsFilled, told_of, told_new, origin_of, HasPut, HasFailed, IsLogOf, IsFrom, IsCutOff, IsCutLog}
+use Rattle.log_book.specs.Books.{no_byte, no_line, begun, account_of, IsNew, AreAlike, CountsOneMore, IsFilled, told_of, told_new, origin_of, HasPut, HasFailed, IsLogOf, IsFrom, IsCutOff, IsCutLog}
 
 -- Bytes
 
@@ -126,3 +132,21 @@ module _ {S : Type 0} {d : Ghosts S} (written flushed target : S → Option (Lis
   -- a new book says that it is
   pub told_begun : (b : Book S d) (f : ProofFormat) (clauses : ℕ) (sink : S) (asked : Bool) → IsNew f clauses sink asked b → told_of written flushed target faults b ≡ told_new written flushed target faults f clauses sink asked
   told_begun b f clauses sink asked n = λ i. record (told_by written flushed target faults (n.lines i)) { entries = n.entries i; kept = n.kept i }
+
+  -- an entry that begins a round has no line
+  pub filled_round : (old new : Book S d) → CountsOneMore old new → (o : Origin) (J : List Entry) (x : RoundStart) → IsFilled o J (told_of written flushed target faults old) → IsFilled o (J ++ Round x ∷ []) (told_of written flushed target faults new)
+  filled_round old new one o J x h =
+      let F : List (List Literal) = o.formula in
+      let told : told_of written flushed target faults new ≡ record (told_of written flushed target faults old) { entries = old.entries + 1 } = λ i. record (told_by written flushed target faults (one.log i).lines) { entries = one.entries i; kept = (one.log i).kept.lines } in
+      let none : lines F (J ++ Round x ∷ []) ≡ lines F J = lines_last F J (Round x) ∙ append-nil (lines F J) in
+      let n = length-append J (Round x ∷ []) in
+      let was = h.entries in
+      subst (IsFilled o (J ++ Round x ∷ [])) (sym told) (record {
+        unspent = h.unspent;
+        entries = omega arith;
+        last = h.last ∙ ap (λ (b : Numbers). b.next) (sym (book_last F J (Round x)));
+        text = has_text_still o J _ (Round x) refl (record { quiet = h.text.quiet; format = h.text.format; bytes = h.text.bytes; kept = h.text.kept });
+        target = h.target;
+        flushed = h.flushed;
+        spelled = subst CanBeSpelled (sym none) h.spelled;
+      })

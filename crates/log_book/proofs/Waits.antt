@@ -4,7 +4,8 @@ use Rattle.std.proofs.Common.{◌≡◌, ◌≢◌, inl, ℕ, ◌^◌, ◌<◌, 
 use Rattle.sat_words.specs.Literal.{Literal, IsOn}
 use Rattle.sat_words.specs.Clause.{is_empty, distinct_lits}
 use Rattle.rup_model.specs.declared.journal.Entry.{Entry}
-use Rattle.rup_model.specs.Journal.{book}
+use Rattle.rup_model.specs.Journal.{spelled_by, book}
+use Rattle.rup_model.proofs.Respelling.{ring_spells}
 use Rattle.clause_cell.specs.Packing.{words_for}
 use Rattle.clause_cell.specs.Free.{range, is_clear}
 use Rattle.share_core.specs.declared.part.CoreOpening.{CoreOpening}
@@ -44,6 +45,7 @@ pub record Waits {S : Type 0} {d : Ghosts S} (v : View) (t : Turn S d) (a : ℕ)
   pub room_is : RoomSound v.layout (room v.layout v.opening (sheet v t).journal)
   pub on : All (IsOn v.layout.vars) (waiting v t a).lits
   pub few : length (waiting v t a).lits < 2 ^ 32
+  pub spelled : spelled_by (only v).core.ring (waiting v t a).lits ≡ (waiting v t a).lits
 
 pub waits_so : {S : Type 0} {d : Ghosts S} (written flushed target : S → Rattle.std.specs.declared.option.Option.Option (List ℕ)) (faults : S → ℕ) (v : View) (t : Turn S d) (a : ℕ) (s : Seen v) → IsTurn written flushed target faults v t → 0 < times_at a (sheet v t).part.waiting → Waits v t a
 waits_so written flushed target faults v t a s h has =
@@ -67,6 +69,7 @@ waits_so written flushed target faults v t a s h has =
       room_is = room_sound v.layout s.small v.opening (sheet v t).journal;
       on = all_on v.layout (waiting v t a).lits vars;
       few = few_lits v.layout (waiting v t a).lits s.places.small (subst (λ (ks : List Literal). distinct_lits ks ≡ true) lits (sound.cells.shape a x at.1.1).distinct) vars;
+      spelled = ring_spells r (waiting v t a).lits (let few = sound.opens.few_rings in omega arith);
     }
 
 -- and none of them is free

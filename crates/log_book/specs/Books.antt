@@ -7,8 +7,11 @@ use Rattle.sat_words.specs.Clause.{is_empty}
 use Rattle.sat_words.specs.declared.line.Line.{Line}
 use Rattle.sat_words.specs.declared.line.Line.TheVariants.{Add, Del}
 use Rattle.sat_words.specs.declared.line.ProofFormat.{ProofFormat}
+use Rattle.sat_words.specs.declared.shared.TheConstants.{MAX_ENTRIES}
 use Rattle.rup_model.specs.declared.journal.Entry.{Entry}
 use Rattle.rup_model.specs.Journal.{book, lines}
+use Rattle.drat_text.specs.declared.stop.LineStop.{LineStop}
+use Rattle.drat_text.specs.declared.stop.LineStop.TheVariants.{Full}
 use Rattle.drat_text.specs.Text.{CanBeSpelled}
 use Rattle.drat_text.specs.LineState.{LineState, with_lines}
 use Rattle.drat_text.specs.LineOut.{PutLine, FailedLine}
@@ -62,6 +65,19 @@ pub record AreAlike {S : Type 0} {d : Ghosts S} (old new : Book S d) : Type 0 wh
   pub entries : new.entries ≡ old.entries
   pub ended : new.ended ≡ old.ended
   pub holes : new.holes ≡ old.holes
+
+-- it counts one entry more, which has no line
+pub record CountsOneMore {S : Type 0} {d : Ghosts S} (old new : Book S d) : Type 0 where
+  pub log : new.log ≡ old.log
+  pub entries : new.entries ≡ old.entries + 1
+  pub ended : new.ended ≡ old.ended
+  pub holes : new.holes ≡ old.holes
+
+-- as many entries stand as can, and the book is the same
+pub record IsFull {S : Type 0} {d : Ghosts S} (old new : Book S d) (stop : LineStop) : Type 0 where
+  pub is : stop ≡ Full
+  pub last : old.entries ≡ MAX_ENTRIES
+  pub same : new ≡ old
 
 -- a line output has come to a journal since it began, has failed at none of its lines, and each variable of the lines is one
 -- that a proof may name

@@ -36,6 +36,14 @@ impl<S: Sink> Ledger for Book<S> {
         self.entries
     }
 
+    fn is_broken(&self) -> bool {
+        self.log.is_spent()
+    }
+
+    fn hole_from(&self, first: u64) -> Option<u64> {
+        self.holes.len_from(first)
+    }
+
     fn with_holes(self, holes: Holes) -> Self {
         let Book {
             log,

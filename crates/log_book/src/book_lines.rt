@@ -1,5 +1,5 @@
 // What a book does: it takes lines, and ends.
-ghost use Rattle.std.specs.Prelude.{◌≡◌, ◌<◌, ◌+◌, ◌^◌, ◌≤◌, ◌⊎◌, length, [], true, false, is_err, List, IfOk, IfErr, OnOk, OnErr, MatchResult, Bool};
+ghost use Rattle.std.specs.Prelude.{◌≡◌, ◌<◌, ◌^◌, ◌≤◌, ◌⊎◌, length, ◌++◌, ◌∷◌, [], true, false, is_err, List, IfOk, IfErr, OnOk, OnErr, MatchResult, Bool};
 ghost use Rattle.std.specs.Option.{option_map};
 ghost use Rattle.std.specs.Io.KnownBytes.{append_known};
 ghost use Rattle.io_edge.specs.Bytes.{IsFront};
@@ -8,10 +8,13 @@ ghost use Rattle.io_edge.specs.Paths.{IsEmptyWhereTold};
 ghost use Rattle.sat_words.specs.Literal.{Literal};
 ghost use Rattle.sat_words.specs.declared.line.ProofFormat.{ProofFormat};
 ghost use Rattle.sat_words.specs.declared.shared.TheConstants.{MAX_ENTRIES};
+ghost use Rattle.rup_model.specs.declared.journal.Round.{Round as RoundStart};
 ghost use Rattle.rup_model.specs.declared.journal.Entry.{Entry};
+ghost use Rattle.rup_model.specs.declared.journal.Entry.TheVariants.{Round};
+ghost use Rattle.drat_text.specs.JournalText.{Origin};
 ghost use Rattle.share_rule.specs.declared.Layout.{Layout};
 ghost use Rattle.share_rule.specs.Books.{HasLog};
-ghost use Rattle.log_book.specs.Books.{ends, begun, told_of, told_new, account_of, origin_of, IsNew, IsFilled, IsFrom, IsCutOff, IsCutLog, IsLogOf, AreAlike, HasPut, HasFailed};
+ghost use Rattle.log_book.specs.Books.{ends, begun, told_of, told_new, account_of, origin_of, IsNew, IsFilled, IsFrom, IsCutOff, IsCutLog, IsLogOf, AreAlike, CountsOneMore, IsFull, HasPut, HasFailed};
 ghost use Rattle.log_book.specs.Ended.{HasEnded};
 ghost use Rattle.log_book.specs.Kept.{IsReady};
 
@@ -111,12 +114,27 @@ impl<S: Sink> Book<S> {
         }
     }
 
-    /// Counts a reduction, which has no line.
-    pub(crate) fn count_reduction(&mut self)
+    /// Counts an entry that has no line.
+    pub(crate) fn count_entry(&mut self)
         requires { self.old.entries < MAX_ENTRIES }
-        ensures { (self.new.log ≡ self.old.log) × (self.new.entries ≡ self.old.entries + 1) × (self.new.ended ≡ self.old.ended) × (self.new.holes ≡ self.old.holes) }
+        ensures { CountsOneMore self.old self.new }
     {
         self.entries += 1;
+    }
+
+    /// Makes the entry that begins a round of the rings, whatever clauses and units they start with. It has no line, and takes
+    /// no memory. It is refused only if as many entries stand as can.
+    pub fn open_round(&mut self) -> Result<(), LineStop>
+        requires going { self.old.ended ≡ false }
+        requires whole { self.old.log.lines.spent ≡ false }
+        ensures counted { MatchResult result (λ _. CountsOneMore self.old self.new) (λ stop. IsFull self.old self.new stop) }
+        ensures filled { OnOk result ((o : Origin) (J : List Entry) (x : RoundStart) → IsFilled o J (told_of S.written S.flushed S.target S.faults self.old) → IsFilled o (J ++ Round x ∷ []) (told_of S.written S.flushed S.target S.faults self.new)) }
+    {
+        if self.entries >= MAX_ENTRIES {
+            return Err(LineStop::Full);
+        }
+        self.count_entry();
+        Ok(())
     }
 
     /// Writes what waits, flushes, and gives the sink back, with the lines where they were asked for. It fails exactly if

@@ -105,7 +105,7 @@ impl<S: Sink> Turn<S> {
         if self.noted.reserve(1).is_err() {
             return Err(TurnStop::Memory);
         }
-        self.book.count_reduction();
+        self.book.count_entry();
         self.noted.push_reserved(Note::Reduce);
         Ok(())
     }

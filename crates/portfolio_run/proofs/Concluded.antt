@@ -45,7 +45,7 @@ use Rattle.portfolio_run.proofs.Making.{not_true}
 use Rattle.portfolio_run.proofs.Gathered.{GoesOn, began_with, entries, goes_on, records}
 
 -- the place of a ring's part
-part_at : (r : ℕ) (ps : List RingPart) → 0 < times_in r (map ring_of ps) → (i : ℕ) × (q : RingPart) × (get_elem? ps i ≡ some q) × (ring_of q ≡ r)
+pub part_at : (r : ℕ) (ps : List RingPart) → 0 < times_in r (map ring_of ps) → (i : ℕ) × (q : RingPart) × (get_elem? ps i ≡ some q) × (ring_of q ≡ r)
 part_at r [] h = absurd (omega arith)
 part_at r (q ∷ ps) h = dite (ℕ_discrete (ring_of q) r)
     (λ e. (0, q, refl, e))

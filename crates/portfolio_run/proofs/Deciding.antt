@@ -1,37 +1,40 @@
 -- The answer of the end that counts holds over the journal of all rings.
-use Rattle.std.proofs.Common.{◌≡◌, ◌∙◌, ◌<◌, ◌≤◌, ℕ, Bool, true, false, List, [], ◌++◌, map, length, replicate, get_or, refl, sym, ap, subst, arith, inl, inr, eq-eqb}
+use Rattle.std.proofs.Common.{◌≡◌, ◌∙◌, ◌<◌, ◌≤◌, ℕ, Bool, true, false, List, [], ◌∷◌, ◌++◌, map, length, replicate, get_or, append-nil, refl, sym, ap, subst, arith, inl, inr, eq-eqb}
 use Rattle.std.specs.Prelude.{◌≢◌, Some, None, Option, if◌then◌else◌}
 use Rattle.std.specs.Option.{option_map}
 use Rattle.std.proofs.lemmas.List.{get_or-map, length-map}
 use Rattle.std.specs.List.{list_any}
+use Rattle.sat_words.specs.Literal.{Literal}
 use Rattle.sat_words.specs.Clause.{is_empty}
 use Rattle.sat_words.specs.FormulaData.{FormulaData}
 use Rattle.sat_words.specs.declared.shared.NoRoom.{NoRoom}
 use Rattle.sat_words.specs.declared.shared.TheConstants.{STOP_SAT, STOP_PROOF, STOP_MEMORY}
+use Rattle.rup_model.specs.declared.journal.Round.{Round as RoundStart}
 use Rattle.rup_model.specs.declared.journal.Entry.{Entry}
 use Rattle.rup_model.specs.Basics.{below}
 use Rattle.rup_model.specs.Journal.{added, ended, learned}
-use Rattle.rup_model.specs.Opening.{program_opening}
-use Rattle.rup_model.specs.Spent.{ruler_part}
+use Rattle.rup_model.specs.Windows.{opening_by}
 use Rattle.share_core.specs.declared.part.CoreOpening.{CoreOpening}
 use Rattle.share_core.specs.declared.part.Placed.{Placed}
-use Rattle.share_core.specs.State.{opening_of}
+use Rattle.share_core.specs.State.{State}
 use Rattle.share_core.specs.declared.event.Stop.{Stop}
 use Rattle.share_core.specs.Sound.{Sound}
 use Rattle.share_core.proofs.Leaving.{left_sound}
 use Rattle.share_core.proofs.Tickets.{all_used, few_used}
 use Rattle.share_core.proofs.Counting.{none_some, some_same}
+use Rattle.core_rounds.specs.Rounds.{left_by, written_in}
+use Rattle.core_rounds.specs.InRounds.{learned_by}
+use Rattle.core_rounds.proofs.AllRounds.{rounds_due}
 use Rattle.rup_model.proofs.Sums.{below_same}
 use Rattle.share_rule.specs.declared.Layout.{Layout}
 use Rattle.share_rule.specs.declared.view.BookOrigin.{BookOrigin}
 use Rattle.share_rule.specs.declared.view.View.{View}
-use Rattle.share_rule.specs.FirstWords.{starts_at}
+use Rattle.share_rule.specs.FirstWords.{starts_at, begun_with}
 use Rattle.share_rule.specs.Layout.{first_cell}
 use Rattle.share_rule.specs.Passes.{TellsFaults}
 use Rattle.share_rule.specs.Seen.{Seen}
-use Rattle.share_rule.specs.Tight.{IsTight, program_core}
+use Rattle.share_rule.specs.Tight.{IsTight}
 use Rattle.share_rule.specs.Views.{first_view, start_glues, own_stop}
-use Rattle.share_rule.proofs.Tightness.{program_tight}
 use Rattle.ring_port.specs.declared.stops.PortStop.TheVariants.{NoHole as NoHoleAnswer}
 use Rattle.ring_port.specs.Port.{is_usable}
 use Rattle.ring_port.specs.PortState.{PortState}
@@ -40,24 +43,27 @@ use Rattle.ring_run.specs.declared.job.End.{End}
 use Rattle.ring_run.specs.declared.job.End.TheVariants as end
 use Rattle.ring_run.specs.Ended.{IsIntact, Cause, stop_kind}
 use Rattle.ruler_simp.specs.declared.ruling.Simplified.{Simplified}
+use Rattle.ruler_simp.specs.Again.{round_start, before_round}
 use Rattle.portfolio_run.specs.declared.answer.Answer.{Answer}
 use Rattle.portfolio_run.specs.declared.answer.Answer.TheVariants.{Unknown, ProofFault, Memory}
 use Rattle.portfolio_run.specs.declared.plan.Plan.{Plan}
 use Rattle.portfolio_run.specs.Ends.{set_of}
-use Rattle.portfolio_run.specs.Held.{IsProgramOpening, IsTallied, RanOnce, IsHeld, HasStop, NeverGone, no_counts}
+use Rattle.portfolio_run.specs.Held.{IsTallied, RestsBetween, RanWithin, IsHeld, HasStop, NeverGone, no_counts}
 use Rattle.portfolio_run.specs.Journaled.{IsJournal, IsUnrefuted}
 use Rattle.portfolio_run.specs.Reached.{RanAt}
-use Rattle.portfolio_run.specs.Room.{layout_of}
+use Rattle.portfolio_run.specs.Room.{layout_of, laid_out}
 use Rattle.portfolio_run.specs.Ruled.{schedule_of, IsRuledThrough}
 use Rattle.portfolio_run.specs.Searched.{answer_of, AllSpent, WasWon}
 use Rattle.portfolio_run.specs.Solved.{Holds, IsUnsettled, kind_of}
 use Rattle.portfolio_run.proofs.Gathered.{GoesOn, began_with}
-use Rattle.portfolio_run.proofs.Interleaving.{own, none_of}
-use Rattle.portfolio_run.proofs.Mending.{alike, model, placed_starts}
+use Rattle.portfolio_run.proofs.FirstRound.{added_none, learned_first, none_by, run, left_is, written_is, rounds}
+use Rattle.portfolio_run.proofs.InRounds.{HasWritten, IsAlike, StandsInRounds, none_stands, rulers_stand}
+use Rattle.portfolio_run.proofs.Interleaving.{own, none_of, learned_own}
+use Rattle.portfolio_run.proofs.Mending.{alike, model, placed_numbered}
+use Rattle.portfolio_run.proofs.Opens.{begins_well}
 use Rattle.portfolio_run.proofs.Placing.{placed_own}
-use Rattle.portfolio_run.proofs.RingsJournal.{HasWritten, AreTogether, ruler_is, rings_is, journal_stands, learned_there, spent_all, unsettled, refutation}
+use Rattle.portfolio_run.proofs.RingsJournal.{AreTogether, journal_stands, learned_all, unsettled, refutation}
 use Rattle.portfolio_run.proofs.RingsRun.{starts_from, port, has_written, tallied, ended_is, cause, wanted, faulty, gone, never_gone, unrefuted, calm}
-use Rattle.portfolio_run.proofs.Behind.{IsAlike}
 use Rattle.portfolio_run.proofs.Spelling.{wider}
 
 -- the answer holds over this journal, whose first part the ruler wrote; the first of these says what is so if it is a fault of the
@@ -65,15 +71,19 @@ use Rattle.portfolio_run.proofs.Spelling.{wider}
 pub record IsDecided (plan : Plan) (F : FormulaData) (answer : Answer) (tally : List Counts) (Failed Calm : Type 0) (J : List Entry) : Type 0 where
   pub stands : IsJournal plan.threads F.clauses J
   pub ruled : IsRuledThrough F (schedule_of plan) J
-  pub held : IsHeld plan.threads plan.slots plan.conflicts F.clauses J tally
+  pub held : IsHeld plan.threads plan.slots None plan.conflicts F.clauses J tally
   pub stop : HasStop held (kind_of answer)
   pub holds : Holds plan ruled.ruled.work.vars F J held answer
   pub rose : answer ≡ ProofFault → Failed
   pub calm : plan.threads ≡ 1 → kind_of answer ≢ Some STOP_PROOF → Calm
 
 module _ (plan : Plan) (F : FormulaData) (left : Simplified) (l : Layout) (origin : BookOrigin) (J0 K : List Entry) (w : View) (s : Seen w) (g : GoesOn plan F left l J0 K w s) where
+  -- what the round begins with
+  abbrev beginning : RoundStart
+  beginning = round_start left
+
   abbrev J : List Entry
-  J = J0 ++ K
+  J = before_round J0 left ++ K
 
   -- the formula, on the variables that are left
   abbrev wide : FormulaData
@@ -87,16 +97,20 @@ module _ (plan : Plan) (F : FormulaData) (left : Simplified) (l : Layout) (origi
   abbrev v : View
   v = first_view l (began_with F l J0 left) origin
 
-  alike_there : IsAlike (starts_from v) (program_opening F.clauses J0)
-  alike_there = alike F J0 left g.left_is (start_glues (starts_at (first_cell l) left.start.items)) (first_cell l)
+  alike_there : IsAlike (starts_from v) (opening_by F.clauses (before_round J0 left) (Some beginning))
+  alike_there = alike F J0 left g.left_is (start_glues (starts_at (first_cell l) left.start.items)) (first_cell l) g.sound_ruler
 
-  together : ((r : ℕ) → r < plan.threads → HasWritten left.vars (starts_from v) r (own r K)) → AreTogether wide J0 K plan.threads (starts_from v)
+  -- the ruler's journal, before the round
+  stood : StandsInRounds left.vars plan.threads F.clauses J0
+  stood = rulers_stand left.vars plan.threads F.clauses [] J0 (none_stands left.vars plan.threads F.clauses) g.rulers g.on_ruler
+
+  together : ((r : ℕ) → r < plan.threads → HasWritten left.vars (starts_from v) r (own r K)) → AreTogether wide J0 beginning K plan.threads (starts_from v)
   together each = record {
     few = g.few;
     on = wider F.vars left.vars g.more F.clauses g.on;
     few_rings = g.few_rings;
-    rulers = g.rulers;
-    on_ruler = g.on_ruler;
+    stood = stood;
+    begins = begins_well F J0 left g.left_is g.sound_ruler;
     going = g.left_is.opens.rulers_part.going;
     sound = g.sound;
     of_rings = g.of_rings;
@@ -109,21 +123,40 @@ module _ (plan : Plan) (F : FormulaData) (left : Simplified) (l : Layout) (origi
   nothing_written : (r : ℕ) → own r K ≡ [] → HasWritten left.vars (starts_from v) r (own r K)
   nothing_written r none = subst (HasWritten left.vars (starts_from v) r) (sym none) (record { wrote = λ k d lt. absurd (omega arith); each_new = tt; spaced = tt })
 
+  -- the rings rest, after the round has begun
+  rested : (tally : List Counts) → tally ≡ replicate plan.threads no_counts → K ≡ [] → RestsBetween plan.threads plan.slots None plan.conflicts F.clauses J tally
+  rested tally none no_more = record {
+    runs = [];
+    left = [];
+    rounds = refl;
+    due = tt;
+    written = J0;
+    rulers = g.rulers;
+    begun = Some beginning;
+    journal_is = ap (λ (es : List Entry). before_round J0 left ++ es) no_more ∙ append-nil (before_round J0 left);
+    within = (let zero_is = none_by plan.threads J (λ r. learned_first r J0 beginning K g.rulers ∙ ap (learned r) no_more) in omega (arith, zero_is));
+    counts = [];
+    tallied = tt;
+    tally_is = inl none;
+  }
+
   pub starved : (Failed Calm : Type 0) → (plan.threads ≡ 1 → Calm) → (tally : List Counts) → tally ≡ replicate plan.threads no_counts → ((r : ℕ) → r < plan.threads → (s.core.part r).wrote ≡ []) → IsDecided plan F Memory tally Failed Calm s.core.journal
+  unfolding rested
   starved Failed Calm calm tally none idle =
       let own_none : (r : ℕ) → r < plan.threads → own r K ≡ [] = λ r lt. sym (placed_own r (length s.core.opening.journal) K) ∙ ap (map (λ (p : Placed). p.entry)) (sym (g.wrote r lt) ∙ idle r lt) in
-      let t : AreTogether wide J0 K plan.threads (starts_from v) = together (λ r lt. nothing_written r (own_none r lt)) in
+      let t : AreTogether wide J0 beginning K plan.threads (starts_from v) = together (λ r lt. nothing_written r (own_none r lt)) in
       let o = starts_from v in
       let threads = plan.threads in
       let some_ring : 0 < plan.threads = let h = g.some_ring in omega (arith, h) in
       let none_there : own 0 K ≡ [] = own_none 0 some_ring in
-      let held : IsHeld plan.threads plan.slots plan.conflicts F.clauses J tally = inl (record { rulers = rings_is wide J0 K threads o t ∙ none_of plan.threads K g.of_rings own_none; none = inr none }) in
+      let none_more : K ≡ [] = none_of plan.threads K g.of_rings own_none in
+      let held : IsHeld plan.threads plan.slots None plan.conflicts F.clauses J tally = inl (rested tally none none_more) in
       subst (IsDecided plan F Memory tally Failed Calm) (sym g.journal_is) (record {
-        stands = journal_stands wide J0 K threads o t;
+        stands = journal_stands wide J0 beginning K threads o t;
         ruled = g.through;
         held = held;
         stop = (λ e. absurd (let k = some_same STOP_MEMORY STOP_SAT e in omega arith), λ e. none_some STOP_MEMORY (sym e));
-        holds = unsettled wide J0 K threads o t plan.slots plan.conflicts tally held 0 some_ring tt (ap (λ (I : List Entry). list_any is_empty (added I)) none_there);
+        holds = unsettled wide J0 beginning K threads o t plan.slots None plan.conflicts tally held 0 some_ring (inl refl) (ap (λ (I : List Entry). list_any is_empty (added I)) none_there);
         rose = λ e. cc e;
         calm = λ one ne. calm one;
       })
@@ -165,19 +198,14 @@ module _ (plan : Plan) (F : FormulaData) (left : Simplified) (l : Layout) (origi
         subst (λ (n : ℕ). HasWritten n (starts_from v) r (own r K)) g.vars_are
         (has_written v w home plan s r (end_at r) (counts_at r) (ran_at r lt) plan.threads g.rings_are lt K start (g.wrote r lt))
 
-    t : AreTogether wide J0 K plan.threads (starts_from v)
+    t : AreTogether wide J0 beginning K plan.threads (starts_from v)
     t = together written_at
 
-    tallied_at : (r : ℕ) (d : Counts) → r < plan.threads → IsTallied plan.threads r s.left.events J (get_or tally r d)
+    tallied_at : (r : ℕ) (d : Counts) → r < plan.threads → IsTallied plan.threads r s.left.events (written_in (run plan F left l J0 K w s g)) (get_or tally r d)
     tallied_at r d lt =
-        subst (IsTallied plan.threads r s.left.events J) (sym (ap (λ (cs : List Counts). get_or cs r d) tally_is ∙ get_or-map (λ (e : End × Counts). e.1) ends r none_ended d (among r lt)))
-        (tallied v w home plan s r (end_at r) (counts_at r) (ran_at r lt) plan.threads g.rings_are lt K start (g.wrote r lt) J (learned_there wide J0 K plan.threads (starts_from v) t r))
-
-    program : IsProgramOpening F.clauses (ruler_part J) (opening_of s.core.opening)
-    program =
-        subst (λ (I : List Entry). IsProgramOpening F.clauses I (opening_of s.core.opening)) (sym (ruler_is wide J0 K plan.threads (starts_from v) t))
-        (subst (λ (q : CoreOpening). IsProgramOpening F.clauses J0 (opening_of q)) (sym g.opening_is)
-        (record { journal_is = refl; starts = placed_starts (first_cell l) left.start.items ∙ g.left_is.starts; units = g.left_is.units }))
+        subst (λ (es : List Entry). IsTallied plan.threads r s.left.events es (get_or tally r d)) (sym (written_is plan F left l J0 K w s g))
+        (subst (IsTallied plan.threads r s.left.events K) (sym (ap (λ (cs : List Counts). get_or cs r d) tally_is ∙ get_or-map (λ (e : End × Counts). e.1) ends r none_ended d (among r lt)))
+        (tallied v w home plan s r (end_at r) (counts_at r) (ran_at r lt) plan.threads g.rings_are lt K start (g.wrote r lt) K (sym (learned_own r K))))
 
     -- What the rings learned together, as the core counts it
 
@@ -199,7 +227,7 @@ module _ (plan : Plan) (F : FormulaData) (left : Simplified) (l : Layout) (origi
 
     lemmas_same : (r : ℕ) → r < plan.threads → lemmas r ≡ lemmas_core r
     lemmas_same r lt =
-        ap length (learned_there wide J0 K plan.threads (starts_from v) t r)
+        ap length (learned_first r J0 beginning K g.rulers ∙ sym (learned_own r K))
         ∙ ap (λ (I : List Entry). length (learned r I)) (sym (ap (map (λ (p : Placed). p.entry)) (g.wrote r lt) ∙ placed_own r start K))
 
     together_learned : below plan.threads lemmas ≡ below s.core.opening.rings lemmas_core
@@ -218,27 +246,25 @@ module _ (plan : Plan) (F : FormulaData) (left : Simplified) (l : Layout) (origi
         ∙ all_used s.core.opening s.core.drawn s.core.part core_sound.tickets core_sound.opens.some_ring (λ r lt. past r (subst (λ (n : ℕ). r < n) rings_core lt))
         ∙ limit_core
 
-    ran_once : RanOnce plan.threads plan.slots plan.conflicts F.clauses J tally
-    ran_once = record {
-      opening = s.core.opening;
-      rings_are = rings_core;
-      depth_is = ap (λ (q : CoreOpening). q.depth) g.opening_is ∙ g.depth_is;
-      limit_is = limit_core;
-      formula_is = ap (λ (q : CoreOpening). q.formula) g.opening_is;
-      program = program;
-      core = s.core;
-      left = s.left;
-      leaves = g.journal_is;
+    tally_many : length tally ≡ plan.threads
+    tally_many = ap length tally_is ∙ length-map ends (λ (e : End × Counts). e.1) ∙ many
+
+    ran_within : RanWithin plan.threads plan.slots None plan.conflicts F.clauses J tally
+    ran_within = record {
+      last = run plan F left l J0 K w s g;
+      before = [];
+      rounds = rounds plan F left l J0 K w s g;
       within = within;
-      many = ap length tally_is ∙ length-map ends (λ (e : End × Counts). e.1) ∙ many;
-      tallied = tallied_at;
+      counts = tally ∷ [];
+      tallied = (record { many = tally_many; each = λ r d lt. tallied_at r d lt }, tt);
+      tally_is = sym (added_none plan.threads tally tally_many);
     }
 
-    decided : (Failed Calm : Type 0) (answer : Answer) → option_map (λ (x : Stop). x.kind) s.core.stop ≡ kind_of answer → Holds plan vars F J (inr ran_once) answer → (answer ≡ ProofFault → Failed) → (plan.threads ≡ 1 → kind_of answer ≢ Some STOP_PROOF → Calm) → IsDecided plan F answer tally Failed Calm s.core.journal
-    unfolding ran_once
+    decided : (Failed Calm : Type 0) (answer : Answer) → option_map (λ (x : Stop). x.kind) s.core.stop ≡ kind_of answer → Holds plan vars F J (inr ran_within) answer → (answer ≡ ProofFault → Failed) → (plan.threads ≡ 1 → kind_of answer ≢ Some STOP_PROOF → Calm) → IsDecided plan F answer tally Failed Calm s.core.journal
+    unfolding ran_within
     decided Failed Calm answer stop holds rose calm =
         subst (IsDecided plan F answer tally Failed Calm) (sym g.journal_is)
-        (record { stands = journal_stands wide J0 K plan.threads (starts_from v) t; ruled = g.through; held = inr ran_once; stop = stop; holds = holds; rose = rose; calm = calm })
+        (record { stands = journal_stands wide J0 beginning K plan.threads (starts_from v) t; ruled = g.through; held = inr ran_within; stop = ap (λ (c : State). option_map (λ (y : Stop). y.kind) c.stop) (left_is plan F left l J0 K w s g) ∙ stop; holds = holds; rose = rose; calm = calm })
 
     -- if the ring is alone and its port can be used, no write has failed
     calm_at : (r : ℕ) (lt : r < plan.threads) → plan.threads ≡ 1 → length w.parts ≡ plan.threads → (fault : Bool) → TellsFaults w.parts fault → is_usable (port_at r lt).refused ≡ true → fault ≡ false
@@ -261,7 +287,7 @@ module _ (plan : Plan) (F : FormulaData) (left : Simplified) (l : Layout) (origi
     decided_spent Failed fault tells long answer h =
         decided Failed (fault ≡ false) answer
         (ap (option_map (λ (x : Stop). x.kind)) (unstopped (λ r lt. h.each r none_ended (among r lt)) s.core.stop refl) ∙ ap kind_of (sym h.is))
-        (subst (Holds plan vars F J (inr ran_once)) (sym h.is) (spent_all wide J0 K plan.threads (starts_from v) t plan.conflicts (all_learned (λ r lt. (one r lt).0)) (λ r lt. (one r lt).1)))
+        (subst (Holds plan vars F J (inr ran_within)) (sym h.is) (learned_all wide J0 beginning K plan.threads (starts_from v) t None plan.conflicts (all_learned (λ r lt. (one r lt).0)) (rounds_due plan.threads plan.slots None plan.conflicts F.clauses (run plan F left l J0 K w s g ∷ []) J (rounds plan F left l J0 K w s g)) (λ r lt. (one r lt).1)))
         (λ e. (let clash : Unknown ≡ ProofFault = sym h.is ∙ e in absurd (cc clash)))
         (λ threads ne. calm_at 0 (omega (arith, threads)) threads long fault tells (subst (Cause (port_at 0 (omega (arith, threads)))) (h.each 0 none_ended (among 0 (omega (arith, threads)))) (cause_at 0 (omega (arith, threads)))).usable)
       where
@@ -283,6 +309,10 @@ module _ (plan : Plan) (F : FormulaData) (left : Simplified) (l : Layout) (origi
     answers_kind end.ProofFault = refl
     answers_kind end.Memory = refl
 
+    -- the start clauses lie one after another
+    laid_there : laid_out l (began_with F l J0 left) ≡ began_with F l J0 left
+    laid_there = ap (λ (ps : List (ℕ × List Literal)). begun_with F.clauses l (before_round J0 left) ps left.units.items) (placed_numbered (first_cell l) left.start.items)
+
     -- what the end of a ring whose stop stands says
     module _ (r : ℕ) (lt : r < plan.threads) where
       log_ended : (port_at r lt).ended ≡ true → ended F.clauses J ≡ true
@@ -290,31 +320,32 @@ module _ (plan : Plan) (F : FormulaData) (left : Simplified) (l : Layout) (origi
           ap (ended F.clauses) (sym g.journal_is) ∙ ap (λ (q : CoreOpening). ended q.formula s.core.journal) (sym g.opening_is)
           ∙ ended_is v w home plan s r (end_at r) (counts_at r) (ran_at r lt) plan.threads g.rings_are lt K start (g.wrote r lt) e
 
-      unsettled_by : (x : End) → end_at r ≡ x → (x ≡ end.Spent → ⊥) → list_any is_empty (added (port_at r lt).mine) ≡ false → IsUnsettled (inr ran_once)
-      unfolding ran_once
-      unsettled_by x is other none = unsettled wide J0 K plan.threads (starts_from v) t plan.slots plan.conflicts tally (inr ran_once) r lt tickets (unrefuted_at r lt none)
+      unsettled_by : (x : End) → end_at r ≡ x → (x ≡ end.Spent → ⊥) → list_any is_empty (added (port_at r lt).mine) ≡ false → IsUnsettled (inr ran_within)
+      unfolding ran_within
+      unsettled_by x is other none = unsettled wide J0 beginning K plan.threads (starts_from v) t plan.slots None plan.conflicts tally (inr ran_within) r lt tickets (unrefuted_at r lt none)
         where
-          tickets : NeverGone (inr ran_once) r
+          tickets : NeverGone (inr ran_within) r
           tickets =
-              subst (λ (q : CoreOpening). (s.core.part r).found ≤ q.limit) (sym g.opening_is)
-              (never_gone v w home plan s r (end_at r) (counts_at r) (ran_at r lt) plan.threads g.rings_are lt K start (g.wrote r lt) (λ e. other (sym is ∙ e)))
+              subst (λ (c : State). (c.part r).found ≤ s.core.opening.limit) (sym (left_is plan F left l J0 K w s g))
+              (subst (λ (q : CoreOpening). (s.core.part r).found ≤ q.limit) (sym g.opening_is)
+              (never_gone v w home plan s r (end_at r) (counts_at r) (ran_at r lt) plan.threads g.rings_are lt K start (g.wrote r lt) (λ e. other (sym is ∙ e))))
 
       -- if its port was refused for want of room, the table had none
-      no_room : (lack : NoRoom) → (port_at r lt).refused ≡ Some (NoHoleAnswer lack) → IsTight (layout_of plan vars) (program_core F.clauses (layout_of plan vars) (ruler_part J)) J lack.need lack.largest
+      no_room : (lack : NoRoom) → (port_at r lt).refused ≡ Some (NoHoleAnswer lack) → IsTight (layout_of plan vars) (laid_out (layout_of plan vars) s.core.opening) J lack.need lack.largest
       no_room lack e =
           let there : IsTight w.layout s.core.opening s.core.journal lack.need lack.largest =
           wanted v w home plan s r (end_at r) (counts_at r) (ran_at r lt) plan.threads g.rings_are lt K start (g.wrote r lt) lack e in
-          let begun : IsTight l (began_with F l J0 left) J lack.need lack.largest =
-          subst (λ (y : Layout × (CoreOpening × List Entry)). IsTight y.0 y.1.0 y.1.1 lack.need lack.largest) (λ i. (g.layout_is i, (g.opening_is i, g.journal_is i))) there in
-          let opened : IsTight l (program_core F.clauses l J0) J lack.need lack.largest = program_tight F.clauses l J0 J left.start.items left.units.items lack.need lack.largest g.left_is.starts begun in
-          subst (λ (y : Layout × List Entry). IsTight y.0 (program_core F.clauses y.0 y.1) J lack.need lack.largest) (λ i. (g.table_is i, sym (ruler_is wide J0 K plan.threads (starts_from v) t) i)) opened
+          let placed : laid_out l s.core.opening ≡ s.core.opening = ap (laid_out l) g.opening_is ∙ laid_there ∙ sym g.opening_is in
+          subst (λ (m : Layout). IsTight m (laid_out m s.core.opening) J lack.need lack.largest) g.table_is
+          (subst (λ (y : Layout × (CoreOpening × List Entry)). IsTight y.0 y.1.0 y.1.1 lack.need lack.largest) (λ i. (g.layout_is i, (sym placed i, g.journal_is i))) there)
 
-      holds_by : (kind : ℕ) (x : End) → end_at r ≡ x → Cause (port_at r lt) x → stop_kind x ≡ Some kind → Holds plan vars F J (inr ran_once) (answer_of F.vars left.stack x)
+      holds_by : (kind : ℕ) (x : End) → end_at r ≡ x → Cause (port_at r lt) x → stop_kind x ≡ Some kind → Holds plan vars F J (inr ran_within) (answer_of F.vars left.stack x)
+      unfolding ran_within
       holds_by kind (end.Sat a) is c won = model F J0 left g.left_is (start_glues (starts_at (first_cell l) left.start.items)) (first_cell l) a g.more g.on (c.0.long ∙ g.vars_are) c.0.start c.0.opening
-      holds_by kind end.Refuted is c won = refutation wide J0 K plan.threads (starts_from v) t g.left_is.going (log_ended c.0)
+      holds_by kind end.Refuted is c won = refutation wide J0 beginning K plan.threads (starts_from v) t g.left_is.going (log_ended c.0)
       holds_by kind end.Spent is c won = absurd (none_some kind won)
       holds_by kind (end.Stopped x) is c won = absurd (none_some kind won)
-      holds_by kind (end.NoHole lack) is c won = (inr (no_room lack c.0), unsettled_by (end.NoHole lack) is (λ e. cc e) c.2)
+      holds_by kind (end.NoHole lack) is c won = (no_room lack c.0, unsettled_by (end.NoHole lack) is (λ e. cc e) c.2)
       holds_by kind end.ProofFault is c won = tt
       holds_by kind end.Memory is c won = unsettled_by end.Memory is (λ e. cc e) c.1
 
@@ -345,6 +376,6 @@ module _ (plan : Plan) (F : FormulaData) (left : Simplified) (l : Layout) (origi
         let kind_is : kind_of answer ≡ Some h.won.kind = ap kind_of is ∙ answers_kind (end_at h.ring) ∙ h.won.decided none_ended in
         decided Failed (fault ≡ false) answer
         (ap (option_map (λ (x : Stop). x.kind)) (s.stops.stands (record { kind = h.won.kind; ring = h.ring }) h.won.stop) ∙ sym (h.won.decided none_ended) ∙ sym (answers_kind (end_at h.ring)) ∙ ap kind_of (sym is))
-        (subst (Holds plan vars F J (inr ran_once)) (sym is) (holds_by h.ring lt h.won.kind (end_at h.ring) refl (cause_at h.ring lt) (h.won.decided none_ended)))
+        (subst (Holds plan vars F J (inr ran_within)) (sym is) (holds_by h.ring lt h.won.kind (end_at h.ring) refl (cause_at h.ring lt) (h.won.decided none_ended)))
         (λ e. fails (rose_by h.ring lt fault tells (end_at h.ring) (cause_at h.ring lt) (sym is ∙ e)))
         (λ threads ne. calm_at h.ring lt threads long fault tells (usable_by h.ring lt h.won.kind (end_at h.ring) (cause_at h.ring lt) (h.won.decided none_ended) (λ e. ne (kind_is ∙ ap Some e))))

@@ -8,7 +8,6 @@ use Rattle.rup_model.specs.declared.journal.TheConstants.{RULER_RING}
 use Rattle.rup_model.specs.declared.journal.Entry.{Entry}
 use Rattle.rup_model.specs.Journal.{ring_of, added, lines, LogSound}
 use Rattle.rup_model.specs.Spent.{ruler_part}
-use Rattle.rup_model.proofs.Parts.{ruler_part-append}
 use Rattle.drat_text.specs.LineState.{LineState}
 use Rattle.share_core.specs.declared.part.CoreOpening.{CoreOpening}
 use Rattle.share_core.specs.Sound.{Sound, placed}
@@ -28,20 +27,21 @@ use Rattle.ruler_simp.specs.declared.ruling.Outcome.TheVariants.{Simplified as L
 use Rattle.ruler_simp.specs.declared.ruling.Simplified.{Simplified}
 use Rattle.ruler_simp.specs.Rounds.{SimplifiedTo}
 use Rattle.ruler_simp.specs.Ruled.{IsAnswer, IsSimplified}
+use Rattle.ruler_simp.specs.Again.{round_start, before_round}
 use Rattle.portfolio_run.specs.declared.plan.Plan.{Plan}
 use Rattle.portfolio_run.specs.Reached.{Records, WasRuled}
 use Rattle.portfolio_run.specs.Room.{layout_of}
 use Rattle.portfolio_run.specs.Ruled.{schedule_of, IsRuled, IsRuledThrough}
 use Rattle.portfolio_run.specs.Seats.{IsSameTable}
 use Rattle.portfolio_run.proofs.Placing.{same_rest}
-use Rattle.portfolio_run.proofs.Rulers.{AreRulers}
+use Rattle.portfolio_run.proofs.Rulers.{AreRulers, front_is}
 
--- what the rings began with
+-- what the rings began with, once their round had begun
 abbrev pub began_with : FormulaData → Layout → List Entry → Simplified → CoreOpening
-began_with F l J0 left = begun_with F.clauses l J0 left.start.items left.units.items
+began_with F l J0 left = begun_with F.clauses l (before_round J0 left) left.start.items left.units.items
 
--- a small plan and formula, which the ruler has simplified, writing the front of a journal; the core was opened with what is left
--- of it, and its journal goes on with the entries of the rings, each if its ring has it
+-- a small plan and formula, which the ruler has simplified, writing the front of a journal; a round began, the core was opened with
+-- what is left of it, and its journal goes on with the entries of the rings, each if its ring has it
 pub record GoesOn (plan : Plan) (F : FormulaData) (left : Simplified) (l : Layout) (J0 K : List Entry) (w : View) (s : Seen w) : Type 0 where
   pub more : F.vars ≤ left.vars
   pub few : left.vars ≤ 2 ^ 30
@@ -56,13 +56,14 @@ pub record GoesOn (plan : Plan) (F : FormulaData) (left : Simplified) (l : Layou
   pub rulers : AreRulers J0
   pub on_ruler : All (All (IsOn left.vars)) (added J0)
   pub left_is : IsSimplified F J0 left
-  pub through : IsRuledThrough F (schedule_of plan) (J0 ++ K)
+  pub sound_ruler : LogSound F.clauses J0
+  pub through : IsRuledThrough F (schedule_of plan) (before_round J0 left ++ K)
   pub table_is : l ≡ layout_of plan through.ruled.work.vars
   pub opening_is : s.core.opening ≡ began_with F l J0 left
-  pub journal_is : s.core.journal ≡ J0 ++ K
+  pub journal_is : s.core.journal ≡ before_round J0 left ++ K
   pub of_rings : All (λ e. ring_of e < plan.threads) K
   pub wrote : (r : ℕ) → r < plan.threads → (s.core.part r).wrote ≡ placed r (length s.core.opening.journal) K
-  pub sound : LogSound F.clauses (J0 ++ K)
+  pub sound : LogSound F.clauses (before_round J0 left ++ K)
 
 module _ {S : Type 0} {d : Ghosts S} (written flushed target : S → Option (List ℕ)) (faults : S → ℕ) (sink : S) (plan : Plan) (F : FormulaData) (old : Book S d) (left : Simplified) (l : Layout) (origin : BookOrigin)
     (few : F.vars ≤ 2 ^ 30) (on : All (All (IsOn F.vars)) F.clauses) (some_ring : 1 ≤ plan.threads) (few_rings : plan.threads ≤ RULER_RING)
@@ -96,7 +97,7 @@ module _ {S : Type 0} {d : Ghosts S} (written flushed target : S → Option (Lis
   abbrev pub entries : List Entry
   entries = sound.log.begins.0
 
-  journal_is : s.core.journal ≡ J0 ++ entries
+  journal_is : s.core.journal ≡ before_round J0 left ++ entries
   journal_is = sound.log.begins.1 ∙ ap (λ (o : CoreOpening). o.journal ++ entries) opening_is
 
   rings_there : s.core.opening.rings ≡ plan.threads
@@ -110,13 +111,13 @@ module _ {S : Type 0} {d : Ghosts S} (written flushed target : S → Option (Lis
       sound.entries.2 r (subst (λ (n : ℕ). r < n) (sym rings_there) lt)
       ∙ ap (placed r (length s.core.opening.journal)) (same_rest s.core.opening.journal s.core.journal sound.entries.0 entries sound.entries.1 sound.log.begins.1)
 
-  log_sound : LogSound F.clauses (J0 ++ entries)
+  log_sound : LogSound F.clauses (before_round J0 left ++ entries)
   log_sound = subst (LogSound F.clauses) journal_is (subst (λ (G : List (List Literal)). LogSound G s.core.journal) (ap (λ (o : CoreOpening). o.formula) opening_is) sound.log.log)
 
-  ruler_is : ruler_part (J0 ++ entries) ≡ J0
-  ruler_is = ruler_part-append J0 entries rulers (λ k e lt. (let h = of_rings k e lt in omega (arith, h)))
+  ruler_is : ruler_part (before_round J0 left ++ entries) ≡ J0
+  ruler_is = front_is J0 (round_start left) entries rulers
 
-  ruled : IsRuled F (schedule_of plan) (J0 ++ entries)
+  ruled : IsRuled F (schedule_of plan) (before_round J0 left ++ entries)
   ruled = record {
     output = first;
     unspent = refl;
@@ -128,7 +129,7 @@ module _ {S : Type 0} {d : Ghosts S} (written flushed target : S → Option (Lis
     alone = λ other. absurd (other refl);
   }
 
-  through : IsRuledThrough F (schedule_of plan) (J0 ++ entries)
+  through : IsRuledThrough F (schedule_of plan) (before_round J0 left ++ entries)
   unfolding ruled
   through = record { ruled = ruled; through = λ why e. cc e }
 
@@ -158,6 +159,7 @@ module _ {S : Type 0} {d : Ghosts S} (written flushed target : S → Option (Lis
     rulers = rulers;
     on_ruler = subst (λ (n : ℕ). All (All (IsOn n)) (added J0)) work_vars was.ruled.stands.on;
     left_is = answered.0;
+    sound_ruler = was.ruled.stands.sound;
     through = through;
     table_is = table_is ∙ ap (layout_of plan) (sym (through_work ∙ work_vars));
     opening_is = opening_is;

@@ -33,22 +33,23 @@ use Rattle.portfolio_run.specs.Jobs.{RanTo}
 use Rattle.portfolio_run.specs.Ports.{begun_at, job_at}
 use Rattle.portfolio_run.specs.Reached.{IsGathered, HaveRun, HaveRested, IsIdle}
 use Rattle.portfolio_run.specs.Runs.{RanAs, AreRun}
-use Rattle.portfolio_run.specs.Seats.{IsSameTable, IsAtRest, HasRing, HasIdle, AreIdle, all_parts, stop_among}
+use Rattle.portfolio_run.specs.Seats.{IsSameTable, IsAtRest, HasRing, HasIdle, AreIdle, all_parts, stop_among, IsSettled}
 use Rattle.portfolio_run.specs.Searched.{IsMended, HasRunTo}
-use Rattle.portfolio_run.proofs.Each.{EachFrom, each_of, each_by}
+use Rattle.portfolio_run.proofs.Each.{EachFrom, each_of, each_by, index_of}
 use Rattle.portfolio_run.proofs.Rights.{HasFirst, same_both}
+use Rattle.portfolio_run.proofs.Making.{new_settled}
 
 -- Parts at their places
 
--- the ring of its place, which has not the turn
+-- the ring of its place, which has not the turn and is settled
 abbrev pub IsSeated : ℕ → RingPart → Type 0
-IsSeated i x = (x.core.ring ≡ i) × (x.turn ≡ None)
+IsSeated i x = (x.core.ring ≡ i) × (x.turn ≡ None) × IsSettled x
 
 -- and which has written nothing
 abbrev pub IsResting : ℕ → ℕ → RingPart → Type 0
 IsResting rings i x = IsSeated i x × IsIdle rings x
 
-at_place : {A : Type 0} (P : ℕ → A → Type 0) (k : ℕ) (xs : List A) → EachFrom P k xs → (i : ℕ) (x : A) → get_elem? xs i ≡ some x → P (k + i) x
+pub at_place : {A : Type 0} (P : ℕ → A → Type 0) (k : ℕ) (xs : List A) → EachFrom P k xs → (i : ℕ) (x : A) → get_elem? xs i ≡ some x → P (k + i) x
 at_place P k [] h i x e = absurd (some-ne-none x (sym e))
 at_place P k (y ∷ ys) h zero x e = subst (λ (n : ℕ). P n x) (let q : k ≡ k + 0 = omega arith in q) (subst (P k) (some-injective y x e) h.0)
 at_place P k (y ∷ ys) h (suc i) x e = subst (λ (n : ℕ). P n x) (let q : k + 1 + i ≡ k + suc i = omega arith in q) (at_place P (k + 1) ys h.1 i x e)
@@ -70,6 +71,7 @@ gathered t v p rest same many each = record {
   whole = λ r lt. let rings = ap (λ (o : CoreOpening). o.rings) same.opening in each_there 0 p.me.0.parts each r (omega arith) (omega arith);
   many = many;
   free = no_turns 0 p.me.0.parts each;
+  settled = λ i d lt. (index_of IsSeated p.me.0.parts each i d lt).2;
 }
 
 resting : {B : Type 0} (t : Shared B) (v : View) (p : Seat (Option B) View) → IsAtRest t p → IsSameTable v p.me.0 → length p.me.0.parts ≡ v.opening.rings → EachFrom (IsResting t.layout.rings) 0 p.me.0.parts → HaveRested t v p
@@ -79,7 +81,7 @@ resting t v p rest same many each = record {
 }
 
 new_rests : (rings : ℕ) (o : CoreOpening) (i : ℕ) (x : RingPart) → x ≡ new_part o i → IsResting rings i x
-new_rests rings o i x is = ((ap (λ (y : RingPart). y.core.ring) is, ap (λ (y : RingPart). y.turn) is), (ap (λ (y : RingPart). y.core.wrote) is, λ one. ap (λ (y : RingPart). y.failed) is))
+new_rests rings o i x is = ((ap (λ (y : RingPart). y.core.ring) is, ap (λ (y : RingPart). y.turn) is, new_settled o i x is), (ap (λ (y : RingPart). y.core.wrote) is, λ one. ap (λ (y : RingPart). y.failed) is))
 
 -- all rings were granted, and taken in at once
 pub all_granted : {B : Type 0} (t : Shared B) (v : View) (p : Seat (Option B) View) (rings : ℕ) → HasFirst t v p rings → rings ≡ v.opening.rings → HaveRested t v p
@@ -110,7 +112,7 @@ all_idle {B} t v p ps rest same parts many idle =
     let each = each_of (HasIdle t) ps idle in
     let one : (n : ℕ) (q : Seat (Option B) View) → HasIdle t n q → q.me.0.parts ≡ only q.me.0 ∷ [] = λ n q h. h.has.one in
     resting t v p rest same (ap length parts ∙ parts_many (HasIdle t) one 0 ps each ∙ many)
-    (subst (EachFrom (IsResting t.layout.rings) 0) (sym parts) (parts_each (HasIdle t) one (IsResting t.layout.rings) (λ n q h. ((h.has.ring_is, h.has.free), (h.idle, h.calm))) 0 ps each))
+    (subst (EachFrom (IsResting t.layout.rings) 0) (sym parts) (parts_each (HasIdle t) one (IsResting t.layout.rings) (λ n q h. ((h.has.ring_is, h.has.free, h.has.settled), (h.idle, h.calm))) 0 ps each))
 
 -- each of them is at rest
 pub all_rest : {B : Type 0} (t : Shared B) (ps : List (Seat (Option B) View)) → ((i : ℕ) (d : Seat (Option B) View) → i < length ps → HasRing t i (get_or ps i d)) → All (IsAtRest t) ps
@@ -147,7 +149,7 @@ unstopped s Memory h none stopped = absurd stopped
 pub have_run : {B : Type 0} (t : Shared B) (v : View) (home : List ℕ) (plan : Plan) (p : Seat (Option B) View) (ps : List (Seat (Option B) View)) (ends : List (End × Counts)) (s : Option Stop)
     → IsAtRest t p → IsSameTable v p.me.0 → p.me.0.parts ≡ all_parts ps → p.me.0.stop ≡ stop_among s ps → length ps ≡ v.opening.rings → length ends ≡ length ps → AreRun t v home plan ps ends → HaveRun t v home plan p ends
 have_run {B} t v home plan p ps ends s rest same parts stop many long run = record {
-  gathered = gathered t v p rest same (ap length parts ∙ parts_many (HasRing t) one 0 ps each ∙ many) (subst (EachFrom IsSeated 0) (sym parts) (parts_each (HasRing t) one IsSeated (λ n q h. (h.ring_is, h.free)) 0 ps each));
+  gathered = gathered t v p rest same (ap length parts ∙ parts_many (HasRing t) one 0 ps each ∙ many) (subst (EachFrom IsSeated 0) (sym parts) (parts_each (HasRing t) one IsSeated (λ n q h. (h.ring_is, h.free, h.settled)) 0 ps each));
   many = long ∙ many;
   ended = λ i d lt.
       let below : i < length ps = omega arith in
@@ -193,7 +195,7 @@ ran_same u v home name plan ring seen part end counts lay open_is named r = reco
 
 pub run_same : {B : Type 0} (t : Shared B) (u v : View) (home name : List ℕ) (plan : Plan) (p : Seat (Option B) View) (ends : List (End × Counts)) → IsSameTable u v → name ≡ home → HaveRun t v name plan p ends → HaveRun t u home plan p ends
 run_same t u v home name plan p ends same named h = record {
-  gathered = record { pass = h.gathered.pass; same = same_both u v p.me.0 same h.gathered.same; whole = h.gathered.whole; many = h.gathered.many ∙ ap (λ (o : CoreOpening). o.rings) same.opening; free = h.gathered.free };
+  gathered = record { pass = h.gathered.pass; same = same_both u v p.me.0 same h.gathered.same; whole = h.gathered.whole; many = h.gathered.many ∙ ap (λ (o : CoreOpening). o.rings) same.opening; free = h.gathered.free; settled = h.gathered.settled };
   many = h.many ∙ ap (λ (o : CoreOpening). o.rings) same.opening;
   ended = h.ended;
   ran = λ i d lt.
@@ -210,6 +212,7 @@ run_looked t v home plan p q ends rest same parts ends_are h = record {
     whole = λ r lt. subst (λ (xs : List RingPart). 0 < times_in r (map ring_of xs)) (sym parts) (h.gathered.whole r (let rings = ap (λ (o : CoreOpening). o.rings) same.opening in omega arith));
     many = ap length parts ∙ h.gathered.many;
     free = subst NoTurns (sym parts) h.gathered.free;
+    settled = subst (All IsSettled) (sym parts) h.gathered.settled;
   };
   many = h.many;
   ended = ends_are;

@@ -2,7 +2,7 @@
 use Rattle.std.proofs.Common.{◌≡◌, ◌≢◌, ◌∙◌, ◌==◌, ◌<◌, ◌≤◌, ◌&&◌, ◌||◌, ℕ, zero, suc, Bool, true, false, not, cond, List, [], ◌∷◌, ◌++◌, map, length, All, refl, sym, ap, subst, arith, append-nil, eq-eqb, ne_eqb}
 use Rattle.std.specs.List.{list_any, filter, fold}
 use Rattle.std.proofs.lemmas.List.Elements.{filter-append}
-use Rattle.std.proofs.lemmas.Bool.{true≢false}
+use Rattle.std.proofs.lemmas.Bool.{true≢false, or_parts}
 use Rattle.std.proofs.lemmas.List.Folds.{list_any-append}
 use mathlib.Core.Logic.{dite}
 use native.Mathlib.Decide.{ℕ_discrete}
@@ -12,7 +12,7 @@ use Rattle.rup_model.specs.Basics.{EachAfter}
 use Rattle.rup_model.specs.declared.journal.TheConstants.{LEARNED_PER_REDUCTION}
 use Rattle.rup_model.specs.declared.journal.Addition.{Addition}
 use Rattle.rup_model.specs.declared.journal.Entry.{Entry}
-use Rattle.rup_model.specs.declared.journal.Entry.TheVariants.{Add, Del, Reduce}
+use Rattle.rup_model.specs.declared.journal.Entry.TheVariants.{Add, Del, Reduce, Round}
 use Rattle.rup_model.specs.Journal.{ring_of, additions, added, learned, is_learn, recent, recent_after, fresh, IsSpaced}
 use Rattle.rup_model.specs.Opening.{Opening, start_clauses, adds_unit, is_new, IsNew}
 use Rattle.rup_model.proofs.Additions.{additions-append, added-append, learned-append}
@@ -80,6 +80,13 @@ none_of rings (e ∷ es) of_rings none =
     let z : suc (length (own (ring_of e) es)) ≡ 0 = ap length (sym (own_here (ring_of e) e es refl) ∙ none (ring_of e) (of_rings 0 e (omega arith))) in
     absurd (omega (arith, z))
 
+-- nor one that is none of these rings
+pub own_none : (r rings : ℕ) → rings ≤ r → (es : List Entry) → All (λ e. ring_of e < rings) es → own r es ≡ []
+own_none r rings le [] of_rings = refl
+own_none r rings le (e ∷ es) of_rings =
+    own_past r e es (λ is. (let lt : ring_of e < rings = of_rings 0 e (omega arith) in absurd (omega (arith, is, lt, le))))
+    ∙ own_none r rings le es (λ k d lt. of_rings (suc k) d (omega arith))
+
 -- no ring adds a clause that passes the test
 pub none_adds : (p : List Literal → Bool) (rings : ℕ) (es : List Entry) → All (λ e. ring_of e < rings) es → ((r : ℕ) → r < rings → list_any p (added (own r es)) ≡ false) → list_any p (added es) ≡ false
 none_adds p rings [] of_rings none = refl
@@ -100,6 +107,17 @@ none_adds p rings (e ∷ es) of_rings none =
     second_false true b h = absurd (true≢false h)
     second_false false b h = h
 
+-- nor does one of them if none at all is added
+pub own_adds_none : (p : List Literal → Bool) (r : ℕ) (es : List Entry) → list_any p (added es) ≡ false → list_any p (added (own r es)) ≡ false
+own_adds_none p r [] none = refl
+own_adds_none p r (e ∷ es) none =
+    let both : (K : List Entry) → list_any p (added (e ∷ K)) ≡ (list_any p (added (e ∷ [])) || list_any p (added K)) = λ K. ap (list_any p) (added-append (e ∷ []) K) ∙ list_any-append p (added (e ∷ [])) (added K) in
+    let parts = or_parts (list_any p (added (e ∷ []))) (list_any p (added es)) (sym (both es) ∙ none) in
+    let rest = own_adds_none p r es parts.1 in
+    dite (ℕ_discrete (ring_of e) r)
+    (λ is. ap (λ (K : List Entry). list_any p (added K)) (own_here r e es is) ∙ both (own r es) ∙ (λ i. parts.0 i || rest i))
+    (λ ne. ap (λ (K : List Entry). list_any p (added K)) (own_past r e es ne) ∙ rest)
+
 -- What only a ring's own entries tell
 
 own_same : {A : Type 0} (r : ℕ) (f : List Entry → List A) → ((J K : List Entry) → f (J ++ K) ≡ f J ++ f K) → ((e : Entry) → ring_of e ≢ r → f (e ∷ []) ≡ []) → f [] ≡ [] → (J : List Entry) → f (own r J) ≡ f J
@@ -112,6 +130,7 @@ learned_past : (r : ℕ) (e : Entry) → ring_of e ≢ r → learned r (e ∷ []
 learned_past r (Add x) ne = ap (λ (t : Bool). map (λ (y : Addition). y.lits) (cond (t && is_learn x.kind) (x ∷ []) [])) (ne_eqb x.ring r ne)
 learned_past r (Del q n) ne = refl
 learned_past r (Reduce q) ne = refl
+learned_past r (Round x) ne = refl
 
 pub learned_own : (r : ℕ) (J : List Entry) → learned r (own r J) ≡ learned r J
 learned_own r J = own_same r (learned r) (learned-append r) (learned_past r) refl J
@@ -120,6 +139,7 @@ recent_past : (r : ℕ) (cs : List (List Literal)) (e : Entry) → ring_of e ≢
 recent_past r cs (Add x) ne = ap (λ (ds : List (List Literal)). cs ++ ds) (learned_past r (Add x) ne) ∙ append-nil cs
 recent_past r cs (Del q n) ne = append-nil cs
 recent_past r cs (Reduce q) ne = ap (λ (t : Bool). cond t [] (cs ++ learned r (Reduce q ∷ []))) (ne_eqb q r ne) ∙ append-nil cs
+recent_past r cs (Round x) ne = append-nil cs
 
 recent_from : (r : ℕ) (cs : List (List Literal)) (J : List Entry) → fold (recent_after r) cs (own r J) ≡ fold (recent_after r) cs J
 recent_from r cs [] = refl
@@ -141,6 +161,7 @@ of_ring_past : (r : ℕ) (e : Entry) → ring_of e ≢ r → of_ring r (e ∷ []
 of_ring_past r (Add x) ne = ap (λ (t : Bool). cond t (x ∷ []) []) (ne_eqb x.ring r ne)
 of_ring_past r (Del q n) ne = refl
 of_ring_past r (Reduce q) ne = refl
+of_ring_past r (Round x) ne = refl
 
 adds_own : (r : ℕ) (J : List Entry) (l : Literal) → adds_unit r (own r J) l ≡ adds_unit r J l
 adds_own r J l = ap (λ (xs : List Addition). list_any (same_set (l ∷ [])) (map (λ (x : Addition). x.lits) xs)) (own_same r (of_ring r) (of_ring-append r) (of_ring_past r) refl J)
@@ -159,8 +180,10 @@ pub new_local : (o : Opening) (before : List Entry) (e : Entry) → IsNew o (own
 new_local o before (Add x) new = λ learns. sym (new_own o x.ring before x.lits) ∙ new learns
 new_local o before (Del q n) new = tt
 new_local o before (Reduce q) new = tt
+new_local o before (Round x) new = tt
 
 pub spaced_local : (before : List Entry) (e : Entry) → IsSpaced (own (ring_of e) before) e → IsSpaced before e
 spaced_local before (Add x) far = tt
 spaced_local before (Del q n) far = tt
 spaced_local before (Reduce q) far = subst (λ (cs : List (List Literal)). LEARNED_PER_REDUCTION ≤ length cs) (recent_own q before) far
+spaced_local before (Round x) far = tt

@@ -1,16 +1,18 @@
-mod Behind
 mod Concluded
 mod Cuts
 mod Cutting
 mod Deciding
 mod Each
 mod Finishing
+mod FirstRound
 mod Gathered
 mod Gathering
+mod InRounds
 mod Interleaving
 mod Lives
 mod Making
 mod Mending
+mod Opens
 mod Placing
 mod Readiness
 mod Rights
@@ -19,6 +21,7 @@ mod RingsRun
 mod Rulers
 mod Ruling
 mod Running
+mod Settled
 mod Spelling
 mod Tabling
 mod Tallies

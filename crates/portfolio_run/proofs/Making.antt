@@ -1,6 +1,6 @@
 -- Ports that are made, and passes that are left.
 use Rattle.std.proofs.Common.{◌≡◌, ℕ, ◌+◌, ◌<◌, Bool, true, false, inl, inr, List, [], ◌∷◌, ◌++◌, length, length-append, map, refl, sym, ap, subst, ◌∙◌, arith, None, Option, get_or}
-use Rattle.std.proofs.lemmas.Bool.{cases_Bool}
+use Rattle.std.proofs.lemmas.Bool.{cases_Bool, true≢false}
 use Rattle.atomic_table.specs.declared.shared.Seat.{Seat}
 use Rattle.share_core.specs.declared.part.CoreOpening.{CoreOpening}
 use Rattle.share_core.specs.declared.part.Placed.{Placed as PlacedEntry}
@@ -9,7 +9,7 @@ use Rattle.share_rule.specs.declared.Shared.{Shared}
 use Rattle.share_rule.specs.declared.view.View.{View}
 use Rattle.share_rule.specs.declared.view.RingPart.{RingPart}
 use Rattle.share_rule.specs.Passes.{IsPassOf}
-use Rattle.share_rule.specs.Views.{no_part}
+use Rattle.share_rule.specs.Views.{no_part, only}
 use Rattle.std.specs.Prelude.{slice_index_or, All}
 use Rattle.ring_port.specs.Port.{is_usable}
 use Rattle.ring_port.specs.PortState.{PortState}
@@ -18,8 +18,9 @@ use Rattle.portfolio_run.specs.declared.jobs.RingJob.{RingJob}
 use Rattle.portfolio_run.specs.declared.plan.Plan.{Plan}
 use Rattle.portfolio_run.specs.Jobs.{IsReady}
 use Rattle.portfolio_run.specs.Ports.{IsMade, job_at, IsAt}
-use Rattle.portfolio_run.specs.Seats.{IsSameTable, IsBegun, HasIdle}
+use Rattle.portfolio_run.specs.Seats.{IsSameTable, IsBegun, HasIdle, IsSettled}
 use Rattle.portfolio_run.proofs.Each.{EachFrom, each_of, index_of, each_by, each_last, each_both}
+use Rattle.share_rule.specs.Steps.{new_part}
 
 -- the port is made, and ready to run
 pub record IsPlaced (v : View) (home : List ℕ) (plan : Plan) (ring : ℕ) (one : RingJob PortState) : Type 0 where
@@ -53,6 +54,10 @@ rings_there t p pass = ap (λ (o : CoreOpening). o.rings) pass.3.opening ∙ sym
 pub not_true : (b : Bool) → (b ≡ true → ⊥) → b ≡ false
 not_true b h = elim (cases_Bool b) as (λ _. b ≡ false) [ inl q ↦ absurd (h q) | inr q ↦ q ]
 
+-- a ring that has only its grant is settled
+pub new_settled : (o : CoreOpening) (ring : ℕ) (x : RingPart) → x ≡ new_part o ring → IsSettled x
+new_settled o ring x is = subst IsSettled (sym is) (refl, λ l w. absurd (true≢false (sym w)))
+
 -- a pass that is begun has its ring, which has written nothing
 pub has_idle : {B : Type 0} (t : Shared B) (v : View) (ring : ℕ) (p : Seat (Option B) View) → IsBegun t v ring p → HasIdle t ring p
 has_idle t v ring p b =
@@ -63,6 +68,7 @@ has_idle t v ring p b =
         one = b.ring_is ∙ (λ i. sym is i ∷ []);
         ring_is = ap (λ (x : RingPart). x.core.ring) is;
         free = ap (λ (x : RingPart). x.turn) is;
+        settled = new_settled v.opening ring (only p.me.0) is;
       };
       idle = ap (λ (x : RingPart). x.core.wrote) is;
       calm = λ one. ap (λ (x : RingPart). x.failed) is;

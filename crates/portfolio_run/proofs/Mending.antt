@@ -1,5 +1,5 @@
 -- A model of what the rings start from, mended by the ruler's stack.
-use Rattle.std.proofs.Common.{◌≡◌, ◌∙◌, ◌+◌, ◌≤◌, ℕ, suc, Bool, true, false, List, [], ◌∷◌, ◌++◌, map, length, take, refl, sym, ap, arith}
+use Rattle.std.proofs.Common.{◌≡◌, ◌∙◌, ◌+◌, ◌≤◌, ℕ, suc, Bool, true, false, List, [], ◌∷◌, ◌++◌, map, length, take, Some, refl, sym, ap, arith}
 use Rattle.std.specs.Prelude.{All}
 use Rattle.std.specs.Cmp.Derive.{both_true}
 use Rattle.std.proofs.lemmas.Bool.{or_left}
@@ -10,13 +10,16 @@ use Rattle.sat_words.specs.Truth.{lit_true, clause_true, formula_true}
 use Rattle.sat_words.specs.FormulaData.{FormulaData}
 use Rattle.clause_cell.specs.Packing.{words_for}
 use Rattle.rup_model.specs.declared.journal.Entry.{Entry}
-use Rattle.rup_model.specs.Opening.{Start, program_opening}
+use Rattle.rup_model.specs.Journal.{book, LogSound}
+use Rattle.rup_model.specs.Opening.{Start}
+use Rattle.rup_model.specs.Windows.{opening_by}
 use Rattle.model_stack.specs.declared.stack.Fix.{Fix}
 use Rattle.model_stack.specs.Extend.{extend}
 use Rattle.model_stack.proofs.Walk.{length-mended}
 use Rattle.share_core.specs.declared.stored.ClauseAt.{ClauseAt}
 use Rattle.share_rule.specs.declared.view.GlueAt.{GlueAt}
 use Rattle.share_rule.specs.FirstWords.{starts_at}
+use Rattle.share_rule.specs.Tight.{numbered}
 use Rattle.ring_port.specs.PortState.{Holding}
 use Rattle.ring_port.specs.Log.{start_of}
 use Rattle.ring_pass.specs.RingState.{holding_of}
@@ -24,18 +27,16 @@ use Rattle.simp_base.specs.WorkState.{IsFixOn, lists, unit_clauses}
 use Rattle.ruler_simp.specs.declared.ruling.Simplified.{Simplified}
 use Rattle.ruler_simp.specs.Left.{start_of as left_start}
 use Rattle.ruler_simp.specs.Ruled.{IsSimplified}
+use Rattle.ruler_simp.specs.Again.{round_start, before_round}
 use Rattle.portfolio_run.specs.Solved.{IsModel}
-use Rattle.portfolio_run.proofs.Behind.{IsAlike}
 use Rattle.portfolio_run.proofs.Cutting.{formula_cut}
+use Rattle.portfolio_run.proofs.InRounds.{IsAlike}
+use Rattle.portfolio_run.proofs.Opens.{by_numbers, opens_there}
 
 abbrev Pair : Type 0
 Pair = ℕ × List Literal
 
 -- The start clauses, where they stand
-
-left_lits : (ps : List Pair) → map (λ (s : Start). s.lits) (map left_start ps) ≡ map (λ (p : Pair). p.1) ps
-left_lits [] = refl
-left_lits (p ∷ ps) = ap (λ (cs : List (List Literal)). p.1 ∷ cs) (left_lits ps)
 
 held_lits : (gs : List GlueAt) (k : ℕ) (ps : List Pair) → map (λ (s : Start). s.lits) (map start_of (map (holding_of gs) (starts_at k ps))) ≡ map (λ (p : Pair). p.1) ps
 held_lits gs k [] = refl
@@ -45,6 +46,16 @@ held_lits gs k (p ∷ ps) = ap (λ (cs : List (List Literal)). p.1 ∷ cs) (held
 pub placed_starts : (k : ℕ) (ps : List Pair) → map (λ (c : ClauseAt). record { number = c.number; lits = c.lits }) (starts_at k ps) ≡ map left_start ps
 placed_starts k [] = refl
 placed_starts k (p ∷ ps) = ap (λ (ss : List Start). left_start p ∷ ss) (placed_starts (k + words_for (length p.1)) ps)
+
+-- their numbers
+pub placed_numbers : (k : ℕ) (ps : List Pair) → map (λ (c : ClauseAt). c.number) (starts_at k ps) ≡ map (λ (p : Pair). p.0) ps
+placed_numbers k [] = refl
+placed_numbers k (p ∷ ps) = ap (λ (ns : List ℕ). p.0 ∷ ns) (placed_numbers (k + words_for (length p.1)) ps)
+
+-- and with them
+pub placed_numbered : (k : ℕ) (ps : List Pair) → numbered (map (λ (c : ClauseAt). record { number = c.number; lits = c.lits }) (starts_at k ps)) ≡ ps
+placed_numbered k [] = refl
+placed_numbered k (p ∷ ps) = ap (λ (qs : List Pair). p ∷ qs) (placed_numbered (k + words_for (length p.1)) ps)
 
 -- The model
 
@@ -71,11 +82,11 @@ extended_long vars (fix ∷ S) a on long =
     length-mended (extend S a) fix lit.low (omega (arith, rest, high)) ∙ rest
 
 module _ (F : FormulaData) (J0 : List Entry) (left : Simplified) (h : IsSimplified F J0 left) (gs : List GlueAt) (k : ℕ) where
-  -- what the rings' ports start from is what the program's opening has
-  pub alike : IsAlike (record { journal = []; starts = map start_of (map (holding_of gs) (starts_at k left.start.items)); units = left.units.items }) (program_opening F.clauses J0)
-  alike = record {
-    starts = held_lits gs k left.start.items ∙ sym (left_lits left.start.items) ∙ ap (map (λ (s : Start). s.lits)) h.starts;
-    units = h.units;
+  -- what the rings' ports start from is what their round begins with
+  pub alike : LogSound F.clauses J0 → IsAlike (record { journal = []; starts = map start_of (map (holding_of gs) (starts_at k left.start.items)); units = left.units.items }) (opening_by F.clauses (before_round J0 left) (Some (round_start left)))
+  alike sound = record {
+    starts = held_lits gs k left.start.items ∙ sym (by_numbers (book F.clauses (before_round J0 left)) left.start.items (opens_there F J0 left h sound).starts);
+    units = λ l. refl;
   }
 
   -- what makes true all that is left is a model once it is mended, and cut to the formula's variables

@@ -44,10 +44,10 @@ use Rattle.portfolio_run.specs.declared.plan.Plan.{Plan}
 use Rattle.portfolio_run.specs.Held.{IsTallied}
 use Rattle.portfolio_run.specs.Journaled.{IsUnrefuted}
 use Rattle.portfolio_run.specs.Reached.{RanAt}
+use Rattle.portfolio_run.proofs.InRounds.{HasWritten}
 use Rattle.portfolio_run.proofs.Interleaving.{own}
 use Rattle.portfolio_run.proofs.Making.{not_true}
 use Rattle.portfolio_run.proofs.Placing.{placed_own}
-use Rattle.portfolio_run.proofs.RingsJournal.{HasWritten}
 
 -- How many other rings there are
 

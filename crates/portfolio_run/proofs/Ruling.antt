@@ -1,8 +1,9 @@
 -- What is known once the ruler has come to its end, and no ring has written anything.
 use Rattle.io_edge.specs.declared.edge.Sink.{Ghosts}
-use Rattle.std.proofs.Common.{◌≡◌, ◌≢◌, ◌∙◌, ◌<◌, ◌≤◌, ◌^◌, ◌+◌, ◌||◌, ℕ, Bool, true, false, List, [], ◌++◌, length, Ok, Err, Some, None, refl, sym, ap, subst, inl, inr, arith, true≢false}
-use Rattle.std.specs.Prelude.{All, Result, map, replicate, slice_index_or, ◌⊎◌, is_some}
+use Rattle.std.proofs.Common.{◌≡◌, ◌≢◌, ◌∙◌, ◌<◌, ◌≤◌, ◌^◌, ◌+◌, ◌||◌, ℕ, Bool, true, false, List, [], ◌++◌, length, Ok, Err, Some, None, append-nil, refl, sym, ap, subst, inl, inr, arith, true≢false}
+use Rattle.std.specs.Prelude.{All, Result, replicate, slice_index_or, ◌⊎◌, is_some}
 use Rattle.std.specs.declared.option.Option.{Option}
+use Rattle.std.specs.Option.{option_map, option_to_list}
 use Rattle.std.proofs.lemmas.Bool.{cases_Bool}
 use Rattle.std.proofs.lemmas.List.Folds.{list_any-append}
 use Rattle.std.specs.Io.KnownBytes.{append_known}
@@ -12,16 +13,19 @@ use Rattle.sat_words.specs.Literal.{Literal, IsOn}
 use Rattle.sat_words.specs.Clause.{is_empty}
 use Rattle.sat_words.specs.FormulaData.{FormulaData}
 use Rattle.sat_words.specs.declared.line.Line.{Line}
+use Rattle.sat_words.specs.declared.shared.NoRoom.{NoRoom}
 use Rattle.sat_words.specs.declared.shared.TheConstants.{MAX_ENTRIES, STOP_SAT, STOP_REFUTED, STOP_ROOM, STOP_PROOF, STOP_MEMORY}
 use Rattle.clause_cell.specs.declared.holes.HoleStop.{HoleStop}
 use Rattle.clause_cell.specs.declared.holes.HoleStop.TheVariants as hole_stop
-use Rattle.rup_model.specs.Log.{OnVariables}
+use Rattle.rup_model.specs.Log.{OnVariables, Refutes}
+use Rattle.rup_model.specs.declared.journal.TheConstants.{RULER_RING}
+use Rattle.rup_model.specs.declared.journal.Round.{Round as RoundStart}
 use Rattle.rup_model.specs.declared.journal.Entry.{Entry}
-use Rattle.rup_model.specs.Journal.{formula_book, lines, added, ring_of}
+use Rattle.rup_model.specs.declared.journal.Entry.TheVariants.{Round}
+use Rattle.rup_model.specs.Journal.{formula_book, lines, added, learned, LogSound}
 use Rattle.rup_model.specs.Opening.{AreAscending, program_opening}
-use Rattle.rup_model.specs.Spent.{ruler_part}
+use Rattle.rup_model.specs.Spent.{ruler_part, rings_part}
 use Rattle.rup_model.proofs.LogLaw.{refutes_none}
-use Rattle.rup_model.proofs.Parts.{rulers_new, rulers_spaced}
 use Rattle.rup_model.proofs.ProgramOpening.{program_ascends}
 use Rattle.drat_text.specs.LineState.{LineState}
 use Rattle.sat_words.specs.declared.line.ProofFormat.{ProofFormat}
@@ -30,12 +34,13 @@ use Rattle.drat_text.specs.Spelling.{proof_bytes}
 use Rattle.drat_text.specs.declared.stop.LineStop.{LineStop}
 use Rattle.drat_text.specs.declared.stop.LineStop.TheVariants as line_stop
 use Rattle.simp_base.specs.Log.{HasLines}
+use Rattle.simp_base.specs.declared.work.Run.TheVariants.{Done}
 use Rattle.simp_base.specs.WorkState.{begun as begun_work}
 use Rattle.ruler_simp.specs.declared.ruling.Outcome.{Outcome}
 use Rattle.ruler_simp.specs.declared.ruling.Outcome.TheVariants.{Simplified as LeftOver, Refuted as NoModel}
 use Rattle.ruler_simp.specs.declared.ruling.Simplified.{Simplified}
-use Rattle.ruler_simp.specs.Left.{start_of}
-use Rattle.ruler_simp.specs.Ruled.{IsAnswer, HasVars, Ruled, run_of, origin_of as work_origin}
+use Rattle.ruler_simp.specs.Ruled.{IsSimplified, IsAnswer, HasVars, Ruled, run_of, origin_of as work_origin}
+use Rattle.ruler_simp.specs.Again.{round_start, before_round}
 use Rattle.ruler_simp.specs.Rounds.{SimplifiedTo}
 use Rattle.ruler_simp.proofs.Telling.{none_made}
 use Rattle.share_core.proofs.Counting.{some_same, none_some}
@@ -48,19 +53,23 @@ use Rattle.share_rule.proofs.Tightness.{program_no_hole}
 use Rattle.log_book.specs.declared.book.Book.{Book}
 use Rattle.log_book.specs.Ended.{IsClosed}
 use Rattle.log_book.specs.Kept.{HoldsText}
-use Rattle.log_book.specs.Books.{begun, told_new, told_of, account_of, origin_of, IsLogOf, IsFilled, IsFrom, IsCutOff, IsCutLog}
+use Rattle.log_book.specs.Books.{begun, told_new, told_of, account_of, origin_of, CountsOneMore, IsLogOf, IsFilled, IsFrom, IsCutOff, IsCutLog}
 use Rattle.ring_run.specs.declared.job.Counts.{Counts}
 use Rattle.portfolio_run.specs.declared.answer.Answer.{Answer}
 use Rattle.portfolio_run.specs.declared.answer.Answer.TheVariants.{Unsat, NoHole, ProofFault, Memory}
 use Rattle.portfolio_run.specs.declared.plan.Plan.{Plan}
-use Rattle.portfolio_run.specs.Held.{IsHeld, no_counts}
+use Rattle.portfolio_run.specs.Held.{RestsBetween, IsHeld, no_counts}
 use Rattle.portfolio_run.specs.Journaled.{IsJournal, IsUnrefuted}
 use Rattle.portfolio_run.specs.Reached.{Records, WasRuled, HasReached, stopped_answer, unmade_answer}
-use Rattle.portfolio_run.specs.Room.{layout_of}
+use Rattle.portfolio_run.specs.Room.{layout_of, HasNoRoom}
 use Rattle.portfolio_run.specs.Ruled.{schedule_of, IsRuled, IsRuledThrough}
 use Rattle.portfolio_run.specs.Solved.{is_verdict, kind_of, Holds, IsUnsettled, IsReached, IsSolved}
 use Rattle.portfolio_run.proofs.Cuts.{cut_whole, front_of_same, front_told}
-use Rattle.portfolio_run.proofs.Rulers.{AreRulers, all_rulers, rulers_of_no_ring, rulers_plain}
+use Rattle.portfolio_run.proofs.FirstRound.{learned_first, none_by}
+use Rattle.portfolio_run.proofs.InRounds.{StandsInRounds, none_stands, rulers_stand, round_stands, journal_of_rounds}
+use Rattle.portfolio_run.proofs.Opens.{begins_well, sound_there, going_there, opens_there}
+use Rattle.portfolio_run.proofs.RingsJournal.{own_unrefuted}
+use Rattle.portfolio_run.proofs.Rulers.{AreRulers, all_rulers, rulers_learned, front_is}
 use Rattle.portfolio_run.proofs.Spelling.{formula_on, spelled_from, wider}
 
 on_variables : (L : List Line) → CanBeSpelled L → OnVariables L
@@ -88,48 +97,11 @@ module _ (plan : Plan) (formula : FormulaData) (old now : LineState) (result : R
   pub has_lines : HasLines (work_origin formula old) J vars now
   has_lines = subst (λ (s : LineState). HasLines (work_origin formula old) J vars s) (sym was.output) was.stands.lines
 
-  pub spelled : CanBeSpelled (lines F J)
-  spelled = spelled_from vars (was.few few) (formula_book F) J (formula_on vars F (wider formula.vars vars was.more F on)) was.stands.on
+  wide_on : All (All (IsOn vars)) F
+  wide_on = wider formula.vars vars was.more F on
 
-  pub journal_stands : IsJournal plan.threads F J
-  journal_stands = record {
-    fits = was.stands.sound.fits;
-    accepted = was.stands.sound.accepted;
-    last = was.stands.sound.empty_last;
-    spelled = spelled;
-    of_rings = subst (λ (K : List Entry). All (λ e. ring_of e < plan.threads) K) (sym (all_rulers J rulers).1) (λ k d lt. absurd (omega arith));
-    plain = rulers_plain J rulers;
-    each_new = rulers_new (program_opening F (ruler_part J)) J rulers;
-    spaced = rulers_spaced J rulers;
-  }
-
-  pub ruled : IsRuled formula (schedule_of plan) J
-  ruled = record {
-    output = old;
-    unspent = unspent;
-    none = begins;
-    last = last_is;
-    work = was.work;
-    result = run_of result;
-    ran = subst (SimplifiedTo (schedule_of plan) (begun_work formula old) was.work (run_of result)) (sym (all_rulers J rulers).0) was.ran;
-    alone = λ _. (all_rulers J rulers).1;
-  }
-
-  ruled_vars : ruled.work.vars ≡ vars
-  unfolding ruled
-  ruled_vars = refl
-
-  abbrev held : IsHeld plan.threads plan.slots plan.conflicts F J tally
-  held = inl (record { rulers = (all_rulers J rulers).1; none = none })
-
-  pub unsettled : IsUnrefuted J → IsUnsettled held
-  unsettled going = record {
-    ring = 0;
-    below = omega arith;
-    tickets = tt;
-    going = subst IsUnrefuted (sym (rulers_of_no_ring 0 (omega arith) J rulers)) refl;
-    rulers = subst IsUnrefuted (sym (all_rulers J rulers).0) going;
-  }
+  spelled : CanBeSpelled (lines F J)
+  spelled = spelled_from vars (was.few few) (formula_book F) J (formula_on vars F wide_on) was.stands.on
 
   -- the output has come to the ruler's lines
   pub filled : now.spent ≡ false → IsFilled (begun F old) J now
@@ -145,38 +117,154 @@ module _ (plan : Plan) (formula : FormulaData) (old now : LineState) (result : R
         spelled = spelled;
       }
 
-  -- no ring ran, and the ruler came to this kind of stop
-  is_reached : (answer : Answer) (kind : ℕ) → kind_of answer ≡ Some kind → kind ≢ STOP_SAT → Holds plan vars formula J held answer → (is_verdict answer ≡ true → IsRuledThrough formula (schedule_of plan) J) → (kind ≡ STOP_PROOF → Rose old.faults now.faults)
-      → (kind ≢ STOP_PROOF → now.faults ≡ old.faults) → IsReached plan formula answer tally old.faults now.faults J
-  is_reached answer kind is other holds through rose still = record {
-    stands = journal_stands;
-    ruled = ruled;
-    held = held;
-    stop = (λ e. other (some_same kind STOP_SAT (sym is ∙ e)), λ e. none_some kind (sym e ∙ is));
-    holds = subst (λ (n : ℕ). Holds plan n formula J held answer) (sym ruled_vars) holds;
-    through = through;
-    faults_fit = record {
-      rose = λ e. rose (some_same kind STOP_PROOF (sym is ∙ e));
-      calm = λ ne. inl (still (λ e. ne (is ∙ ap Some e)));
-    };
+  -- the ruler's journal stands
+  rulers_stood : StandsInRounds vars plan.threads F J
+  rulers_stood = rulers_stand vars plan.threads F [] J (none_stands vars plan.threads F) rulers was.stands.on
+
+  -- The ruler came to its end, and no ring ran; a round may have begun then
+
+  -- what is so of the whole journal
+  record IsWhole (begun : Option RoundStart) (I : List Entry) : Type 0 where
+    journal_is : I ≡ J ++ option_to_list (option_map Round begun)
+    stood : StandsInRounds vars plan.threads F I
+    sound : LogSound F I
+    front : ruler_part I ≡ J
+    alone : run_of result ≢ Ok Done → rings_part I ≡ []
+    none_learned : (r : ℕ) → learned r I ≡ []
+
+  -- if no round has begun
+  not_begun : IsWhole None J
+  not_begun = record {
+    journal_is = sym (append-nil J);
+    stood = rulers_stood;
+    sound = was.stands.sound;
+    front = (all_rulers J rulers).0;
+    alone = λ _. (all_rulers J rulers).1;
+    none_learned = λ r. rulers_learned r J rulers;
   }
 
-  -- the formula was refuted
+  -- if one has
+  has_begun : (left : Simplified) → run_of result ≡ Ok Done → IsSimplified formula J left → IsWhole (Some (round_start left)) (before_round J left)
+  has_begun left done h = record {
+    journal_is = refl;
+    stood = round_stands vars plan.threads F J (round_start left) rulers_stood (begins_well formula J left h was.stands.sound);
+    sound = sound_there formula J left h was.stands.sound;
+    front = ap ruler_part (sym (append-nil (before_round J left))) ∙ front_is J (round_start left) [] rulers;
+    alone = λ other. absurd (other done);
+    none_learned = λ r. ap (learned r) (sym (append-nil (before_round J left))) ∙ learned_first r J (round_start left) [] rulers;
+  }
 
-  ruled_through : result ≡ Ok NoModel → IsRuledThrough formula (schedule_of plan) J
-  unfolding ruled
-  ruled_through is = record { ruled = ruled; through = λ why e. found_none why (sym (ap run_of is) ∙ e) }
-    where
-      found_none : (why : LineStop) → run_of (Ok NoModel) ≢ Err why
-      found_none why clash = cc clash
+  module _ (begun : Option RoundStart) (I : List Entry) (whole : IsWhole begun I) where
+    journal_stands : IsJournal plan.threads F I
+    journal_stands = journal_of_rounds vars plan.threads F I (was.few few) wide_on whole.sound whole.stood
 
-  refuted_by : result ≡ Ok NoModel → IsAnswer formula J old now (Ok NoModel) → IsReached plan formula Unsat tally old.faults now.faults J
-  refuted_by is h =
-      is_reached Unsat STOP_REFUTED refl (λ e. absurd (omega arith)) (record { refuted = h.0; no_model = λ m t. refutes_none F (lines F J) h.0 (on_variables (lines F J) spelled) (m, t) }) (λ _. ruled_through is)
-      (λ e. absurd (omega arith)) (λ _. h.1.quiet)
+    ruled : IsRuled formula (schedule_of plan) I
+    ruled = record {
+      output = old;
+      unspent = unspent;
+      none = begins;
+      last = last_is;
+      work = was.work;
+      result = run_of result;
+      ran = subst (SimplifiedTo (schedule_of plan) (begun_work formula old) was.work (run_of result)) (sym whole.front) was.ran;
+      alone = whole.alone;
+    }
+
+    ruled_vars : ruled.work.vars ≡ vars
+    unfolding ruled
+    ruled_vars = refl
+
+    rested : RestsBetween plan.threads plan.slots None plan.conflicts F I tally
+    rested = record {
+      runs = [];
+      left = [];
+      rounds = refl;
+      due = tt;
+      written = J;
+      rulers = rulers;
+      begun = begun;
+      journal_is = whole.journal_is;
+      within = (let zero_is = none_by plan.threads I whole.none_learned in omega (arith, zero_is));
+      counts = [];
+      tallied = tt;
+      tally_is = elim none [
+        | inl e ↦ inr (refl, e)
+        | inr e ↦ inl e
+      ];
+    }
+
+    held : IsHeld plan.threads plan.slots None plan.conflicts F I tally
+    held = inl rested
+
+    unsettled : IsUnrefuted I → IsUnsettled held
+    unfolding held rested
+    unsettled going = record {
+      ring = 0;
+      below = omega arith;
+      tickets = inl refl;
+      going = own_unrefuted 0 I going;
+      rulers = own_unrefuted RULER_RING I going;
+    }
+
+    -- no ring ran, and the run came to this kind of stop
+    is_reached : (answer : Answer) (kind : ℕ) → kind_of answer ≡ Some kind → kind ≢ STOP_SAT → Holds plan vars formula I held answer → (is_verdict answer ≡ true → IsRuledThrough formula (schedule_of plan) I) → (kind ≡ STOP_PROOF → Rose old.faults now.faults)
+        → (kind ≢ STOP_PROOF → now.faults ≡ old.faults) → IsReached plan formula answer tally old.faults now.faults I
+    unfolding held
+    is_reached answer kind is other holds through rose still = record {
+      stands = journal_stands;
+      ruled = ruled;
+      held = held;
+      stop = (λ e. other (some_same kind STOP_SAT (sym is ∙ e)), λ e. none_some kind (sym e ∙ is));
+      holds = subst (λ (n : ℕ). Holds plan n formula I held answer) (sym ruled_vars) holds;
+      through = through;
+      faults_fit = record {
+        rose = λ e. rose (some_same kind STOP_PROOF (sym is ∙ e));
+        calm = λ ne. inl (still (λ e. ne (is ∙ ap Some e)));
+      };
+    }
+
+    -- memory ran out
+    no_memory : IsUnrefuted I → now.faults ≡ old.faults → IsReached plan formula Memory tally old.faults now.faults I
+    no_memory going still = is_reached Memory STOP_MEMORY refl (λ e. absurd (omega arith)) (unsettled going) (λ e. absurd (true≢false (sym e))) (λ e. absurd (omega arith)) (λ _. still)
+
+    -- there was no room
+    no_room : (lack : NoRoom) → HasNoRoom plan vars held lack → IsUnrefuted I → now.faults ≡ old.faults → IsReached plan formula (NoHole lack) tally old.faults now.faults I
+    no_room lack short going still = is_reached (NoHole lack) STOP_ROOM refl (λ e. absurd (omega arith)) (short, unsettled going) (λ e. absurd (true≢false (sym e))) (λ e. absurd (omega arith)) (λ _. still)
+
+    -- the journal is full
+    no_entry : MAX_ENTRIES ≤ length I → IsUnrefuted I → now.faults ≡ old.faults → IsReached plan formula (NoHole (record { need = MAX_ENTRIES + 1; largest = MAX_ENTRIES })) tally old.faults now.faults I
+    unfolding held
+    no_entry full = no_room (record { need = MAX_ENTRIES + 1; largest = MAX_ENTRIES }) (inr (record { full = full; need_is = refl; most_is = refl }))
+
+    -- a start clause of the program's opening finds no hole
+    no_place : (start : RoundStart) → begun ≡ Some start → (need most : ℕ) → IsNoHole (layout_of plan vars) (numbered (program_opening F J).starts) need most → IsUnrefuted I → now.faults ≡ old.faults
+        → IsReached plan formula (NoHole (record { need = need; largest = most })) tally old.faults now.faults I
+    unfolding held rested
+    no_place start is need most h = no_room (record { need = need; largest = most }) (inl (record { start = start; begun = is; none = h }))
+
+    -- a line failed
+    failed : Rose old.faults now.faults → IsReached plan formula ProofFault tally old.faults now.faults I
+    failed rose = is_reached ProofFault STOP_PROOF refl (λ e. absurd (omega arith)) tt (λ e. absurd (true≢false (sym e))) (λ _. rose) (λ ne. absurd (ne refl))
+
+    -- the formula was refuted
+
+    ruled_through : result ≡ Ok NoModel → IsRuledThrough formula (schedule_of plan) I
+    unfolding ruled
+    ruled_through is = record { ruled = ruled; through = λ why e. found_none why (sym (ap run_of is) ∙ e) }
+      where
+        found_none : (why : LineStop) → run_of (Ok NoModel) ≢ Err why
+        found_none why clash = cc clash
+
+    refuted_by : result ≡ Ok NoModel → Refutes F (lines F I) → now.faults ≡ old.faults → IsReached plan formula Unsat tally old.faults now.faults I
+    refuted_by is h still =
+        is_reached Unsat STOP_REFUTED refl (λ e. absurd (omega arith)) (record { refuted = h; no_model = λ m t. refutes_none F (lines F I) h (on_variables (lines F I) journal_stands.spelled) (m, t) }) (λ _. ruled_through is)
+        (λ e. absurd (omega arith)) (λ _. still)
+
+  refuted_answer : result ≡ Ok NoModel → IsAnswer formula J old now (Ok NoModel) → IsReached plan formula Unsat tally old.faults now.faults J
+  refuted_answer is h = refuted_by None J not_begun is h.0 h.1.quiet
 
   pub refuted : result ≡ Ok NoModel → IsReached plan formula Unsat tally old.faults now.faults J
-  refuted is = refuted_by is (subst (IsAnswer formula J old now) is was.answer)
+  refuted is = refuted_answer is (subst (IsAnswer formula J old now) is was.answer)
 
   -- a full output has as many lines as the journal has entries
   full : now.entries ≡ MAX_ENTRIES → MAX_ENTRIES ≤ length J
@@ -184,31 +272,35 @@ module _ (plan : Plan) (formula : FormulaData) (old now : LineState) (result : R
 
   -- it was stopped
   stopped_by : (why : LineStop) → IsAnswer formula J old now (Err why) → IsReached plan formula (stopped_answer why) tally old.faults now.faults J
-  stopped_by line_stop.ProofFault h = is_reached ProofFault STOP_PROOF refl (λ e. absurd (omega arith)) tt (λ e. absurd (true≢false (sym e))) (λ _. h.0) (λ ne. absurd (ne refl))
-  stopped_by line_stop.Full h =
-      is_reached (NoHole (record { need = MAX_ENTRIES + 1; largest = MAX_ENTRIES })) STOP_ROOM refl (λ e. absurd (omega arith)) (inr (inr (full h.0.0, refl, refl)), unsettled h.1) (λ e. absurd (true≢false (sym e))) (λ e. absurd (omega arith)) (λ _. h.0.1)
-  stopped_by line_stop.Memory h = is_reached Memory STOP_MEMORY refl (λ e. absurd (omega arith)) (unsettled h.1) (λ e. absurd (true≢false (sym e))) (λ e. absurd (omega arith)) (λ _. h.0)
+  stopped_by line_stop.ProofFault h = failed None J not_begun h.0
+  stopped_by line_stop.Full h = no_entry None J not_begun (full h.0.0) h.1 h.0.1
+  stopped_by line_stop.Memory h = no_memory None J not_begun h.1 h.0
 
   pub stopped : (why : LineStop) → result ≡ Err why → IsReached plan formula (stopped_answer why) tally old.faults now.faults J
   stopped why is = stopped_by why (subst (IsAnswer formula J old now) is was.answer)
 
-  -- a start clause of the program's opening finds no hole
-  no_hole : (l : Layout) → l ≡ layout_of plan vars → (left : Simplified) → map start_of left.start.items ≡ (program_opening F J).starts → (need most : ℕ) → IsNoHole l left.start.items need most
-      → IsNoHole (layout_of plan vars) (numbered (program_opening F (ruler_part J)).starts) need most
-  no_hole l l_is left same need most h =
-      subst (λ (y : Layout × List Entry). IsNoHole y.0 (numbered (program_opening F y.1).starts) need most) (λ i. (l_is i, sym (all_rulers J rulers).0 i))
-      (program_no_hole F l J left.start.items need most same h)
+  -- something is left
+  module _ (left : Simplified) (is : result ≡ Ok (LeftOver left)) where
+    left_over : IsAnswer formula J old now (Ok (LeftOver left))
+    left_over = subst (IsAnswer formula J old now) is was.answer
 
-  -- something is left, over which no table could be made
-  unmade_by : (l : Layout) → l ≡ layout_of plan vars → (left : Simplified) → IsAnswer formula J old now (Ok (LeftOver left)) → (why : HoleStop) → IsMakeStop l left.start.items why → IsReached plan formula (unmade_answer why) tally old.faults now.faults J
-  unmade_by l l_is left h (hole_stop.NoHole need most) s =
-      is_reached (NoHole (record { need = need; largest = most })) STOP_ROOM refl (λ e. absurd (omega arith)) (inl (no_hole l l_is left h.0.starts need most s), unsettled h.0.opens.rulers_part.going) (λ e. absurd (true≢false (sym e)))
-      (λ e. absurd (omega arith)) (λ _. h.1.quiet)
-  unmade_by l l_is left h hole_stop.Memory s =
-      is_reached Memory STOP_MEMORY refl (λ e. absurd (omega arith)) (unsettled h.0.opens.rulers_part.going) (λ e. absurd (true≢false (sym e))) (λ e. absurd (omega arith)) (λ _. h.1.quiet)
+    going : IsUnrefuted J
+    going = left_over.0.opens.rulers_part.going
 
-  pub unmade : (l : Layout) → l ≡ layout_of plan vars → (left : Simplified) → result ≡ Ok (LeftOver left) → (why : HoleStop) → IsMakeStop l left.start.items why → IsReached plan formula (unmade_answer why) tally old.faults now.faults J
-  unmade l l_is left is why s = unmade_by l l_is left (subst (IsAnswer formula J old now) is was.answer) why s
+    -- no round can begin: the log is full
+    pub unbegun : now.entries ≡ MAX_ENTRIES → IsReached plan formula (stopped_answer line_stop.Full) tally old.faults now.faults J
+    unbegun e = no_entry None J not_begun (full e) going left_over.1.quiet
+
+    begun_so : IsWhole (Some (round_start left)) (before_round J left)
+    begun_so = has_begun left (ap run_of is) left_over.0
+
+    -- a round has begun, over which no table could be made
+    pub unmade : (l : Layout) → l ≡ layout_of plan vars → (why : HoleStop) → IsMakeStop l left.start.items why → IsReached plan formula (unmade_answer why) tally old.faults now.faults (before_round J left)
+    unmade l l_is (hole_stop.NoHole need most) s =
+        no_place (Some (round_start left)) (before_round J left) begun_so (round_start left) refl need most
+        (subst (λ (m : Layout). IsNoHole m (numbered (program_opening F J).starts) need most) l_is (program_no_hole F l J left.start.items need most left_over.0.starts s))
+        (going_there formula J left left_over.0 was.stands.sound) left_over.1.quiet
+    unmade l l_is hole_stop.Memory s = no_memory (Some (round_start left)) (before_round J left) begun_so (going_there formula J left left_over.0 was.stands.sound) left_over.1.quiet
 
 module _ {S : Type 0} {d : Ghosts S} (written flushed target : S → Option (List ℕ)) (faults : S → ℕ) where
   -- what a book promises that was filled through the bound of a line output
@@ -297,41 +389,71 @@ module _ {S : Type 0} {d : Ghosts S} (written flushed target : S → Option (Lis
       pub left_unspent : b.log.lines.spent ≡ false
       left_unspent = left_answer.1.unspent
 
-      -- no table could be made
-      pub unmade_book : LogLaw b → CutLaw b → (why : HoleStop) → IsMakeStop (layout_over left.vars) left.start.items why → HasReached written flushed target faults sink plan formula (unmade_answer why) tally b
-      unmade_book law cut why s = record {
+      -- the journal once the round has begun
+      abbrev pub J1 : List Entry
+      J1 = before_round rulers_journal left
+
+      -- no round could begin
+      pub unbegun_book : LogLaw b → CutLaw b → b.entries ≡ MAX_ENTRIES → HasReached written flushed target faults sink plan formula (stopped_answer line_stop.Full) tally b
+      unbegun_book law cut e = record {
         journal = rulers_journal;
         records = records law cut;
-        reached = unmade plan formula before told result tally few on rings (inr none) refl refl refl was.ruled table_layout (ap (layout_of plan) vars_are) left is why s;
+        reached = unbegun plan formula before told result tally few on rings (inr none) refl refl refl was.ruled left is e;
         asked = asked law;
       }
 
-      -- a table may be made
-      pub may_begin : plan.threads ≤ 16 → plan.conflicts ≤ 10 ^ 12 → plan.words ≤ 2 ^ 31 → 1 ≤ plan.slots → plan.slots ≤ 16 → MayBegin F' (layout_over left.vars) rulers_journal left.start.items left.units.items
-      may_begin few_rings few_lemmas few_words some_slot few_slots =
-          let entries = (filled_book left_unspent).entries in
-          let small = b.few in
-          let on_left = left_answer.0.on in
-          record {
-            some_ring = rings;
-            few_rings = few_rings;
-            few_vars = subst (λ (n : ℕ). n ≤ 2 ^ 30) (sym vars_are) few_left;
-            few_words = few_words;
-            some_slot = some_slot;
-            few_slots = few_slots;
-            opens = left_answer.0.opens;
-            ascending = subst AreAscending (sym left_answer.0.starts) (program_ascends F' rulers_journal);
-            going = list_any-append is_empty F' (added rulers_journal) ∙ (λ i. left_answer.0.going i || left_answer.0.opens.rulers_part.going i);
-            few_entries = omega arith;
-            starts = λ k x lt. in_vars table_layout (slice_index_or left.start.items k x).1 (on_left.start k x lt);
-            units = in_vars table_layout left.units.items on_left.units;
-            limited = omega arith;
-          }
+      -- the first round began, in the same lines
+      module _ (c : Book S d) (one : CountsOneMore b c) (goes_on : IsFilled (begun F' before) rulers_journal told → IsFilled (begun F' before) J1 (told_of written flushed target faults c)) (law : LogLaw c) where
+        filled_there : IsFilled (begun F' before) J1 (told_of written flushed target faults c)
+        filled_there = goes_on (filled_book left_unspent)
 
-      -- over the book, which began with the sink
-      pub has_log : LogLaw b
-          → HasLog account_of (IsLogOf written flushed target faults) b (origin_of written flushed target faults b) (layout_over left.vars) F' rulers_journal × IsFrom target faults plan.format sink plan.keep_lines (origin_of written flushed target faults b)
-      has_log law = law F' rulers_journal table_layout plan.format sink plan.keep_lines was.empty (filled_book left_unspent)
+        -- what is known of the book
+        log_there : (l : Layout) → HasLog account_of (IsLogOf written flushed target faults) c (origin_of written flushed target faults c) l F' J1 × IsFrom target faults plan.format sink plan.keep_lines (origin_of written flushed target faults c)
+        log_there l = law F' J1 l plan.format sink plan.keep_lines was.empty filled_there
+
+        records_there : Records written flushed target faults plan.format sink F' J1 c
+        records_there =
+            let h = log_there (layout_over left_vars) in
+            record { origin = origin_of written flushed target faults c; layout = layout_over left_vars; few = few_left; format_is = h.1.format_is; faults_are = h.1.faults_are; target_is = h.1.target_is; log = h.0.sink; kept = h.0.kept }
+
+        pub unspent_there : c.log.lines.spent ≡ false
+        unspent_there = filled_there.unspent
+
+        -- no table could be made
+        pub unmade_book : (why : HoleStop) → IsMakeStop (layout_over left.vars) left.start.items why → HasReached written flushed target faults sink plan formula (unmade_answer why) tally c
+        unmade_book why s = record {
+          journal = J1;
+          records = records_there;
+          reached = subst (λ (n : ℕ). IsReached plan formula (unmade_answer why) tally (faults sink) n J1) (ap (λ x. faults x.lines.sink) (sym one.log))
+              (unmade plan formula before told result tally few on rings (inr none) refl refl refl was.ruled left is table_layout (ap (layout_of plan) vars_are) why s);
+          asked = λ q. (log_there (layout_over left_vars)).1.keeps;
+        }
+
+        -- a table may be made
+        pub may_begin : plan.threads ≤ 16 → plan.conflicts ≤ 10 ^ 12 → plan.words ≤ 2 ^ 31 → 1 ≤ plan.slots → plan.slots ≤ 16 → MayBegin F' (layout_over left.vars) J1 left.start.items left.units.items
+        may_begin few_rings few_lemmas few_words some_slot few_slots =
+            let entries = filled_there.entries in
+            let small = c.few in
+            let on_left = left_answer.0.on in
+            record {
+              some_ring = rings;
+              few_rings = few_rings;
+              few_vars = subst (λ (n : ℕ). n ≤ 2 ^ 30) (sym vars_are) few_left;
+              few_words = few_words;
+              some_slot = some_slot;
+              few_slots = few_slots;
+              opens = opens_there formula rulers_journal left left_answer.0 was.ruled.stands.sound;
+              ascending = subst AreAscending (sym left_answer.0.starts) (program_ascends F' rulers_journal);
+              going = list_any-append is_empty F' (added J1) ∙ (λ i. left_answer.0.going i || going_there formula rulers_journal left left_answer.0 was.ruled.stands.sound i);
+              few_entries = omega arith;
+              starts = λ k x lt. in_vars table_layout (slice_index_or left.start.items k x).1 (on_left.start k x lt);
+              units = in_vars table_layout left.units.items on_left.units;
+              limited = omega arith;
+            }
+
+        -- over the book, which began with the sink
+        pub has_log : HasLog account_of (IsLogOf written flushed target faults) c (origin_of written flushed target faults c) (layout_over left.vars) F' J1 × IsFrom target faults plan.format sink plan.keep_lines (origin_of written flushed target faults c)
+        has_log = log_there table_layout
 
 -- memory ran out before a line was put, and the sink was flushed
 pub starved : (plan : Plan) (formula : FormulaData) (tally : List Counts) (before faults : ℕ) (flushed written : Option (List ℕ)) → formula.vars ≤ 2 ^ 30 → All (All (IsOn formula.vars)) formula.clauses → 1 ≤ plan.threads

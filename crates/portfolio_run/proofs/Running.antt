@@ -98,7 +98,7 @@ run_of {B} t first p plan ring s end e pass run shows =
     let lay : w.layout ≡ v.layout = shows.pass.0.2 ∙ sym pass.2 in
     let same = same_port v w (only w) own s lay shows.state ran.stays.start ran.stays.opening ran.stays.rings ran.stays.depth ran.stays.limit in
     record {
-      has = record { pass = shows.pass; one = shows.one; ring_is = ring_is; free = shows.free };
+      has = record { pass = shows.pass; one = shows.one; ring_is = ring_is; free = shows.free; settled = shows.settled };
       ran = record {
         own = own;
         looks = w.looks;

@@ -1,7 +1,7 @@
 -- The clauses that are alive after entries have their literals on the variables, so that lines can be spelled.
 use Rattle.std.proofs.Common.{◌≡◌, ◌≤◌, ◌^◌, ℕ, zero, suc, ◌==◌, Bool, true, false, List, [], ◌∷◌, Some, None, refl, arith}
 use Rattle.std.specs.Prelude.{All, IfSome, if◌then◌else◌}
-use Rattle.std.specs.List.{slice_get}
+use Rattle.std.specs.List.{list_any, slice_get}
 use Rattle.std.specs.Option.{option_map, unwrap_or}
 use Rattle.std.specs.declared.option.Option.{Option}
 use Rattle.sat_words.specs.Literal.{Literal, IsOn}
@@ -10,10 +10,11 @@ use Rattle.sat_words.specs.declared.line.Line.TheVariants.{Add as AddLine}
 use Rattle.sat_words.proofs.Insertion.{same_set-clause_of}
 use Rattle.rup_model.specs.declared.journal.TheConstants.{RULER_RING}
 use Rattle.rup_model.specs.declared.journal.Addition.{Addition}
+use Rattle.rup_model.specs.declared.journal.Round.{Round as RoundStart}
 use Rattle.rup_model.specs.declared.journal.Entry.{Entry}
-use Rattle.rup_model.specs.declared.journal.Entry.TheVariants.{Add, Del, Reduce}
+use Rattle.rup_model.specs.declared.journal.Entry.TheVariants.{Add, Del, Reduce, Round}
 use Rattle.rup_model.specs.Log.{lits_of}
-use Rattle.rup_model.specs.Journal.{Book, formula_book, book_after, spelled, added, lines_from, line_of_deletion}
+use Rattle.rup_model.specs.Journal.{Book, formula_book, book_after, respelled, spelled_by, spelled, added, lines_from, line_of_deletion}
 use Rattle.rup_model.proofs.Covers.{has_same, same_back}
 use Rattle.rup_model.proofs.Lists.{In_has, has_In}
 use Rattle.ring_port.proofs.LogSteps.{In_All}
@@ -52,13 +53,31 @@ added_on vars b x on lits n = at_put b.clause b.next (Some (spelled x)) (λ o. I
 without_on : (vars : ℕ) (b : Book) (r n : ℕ) → AreOn vars b → AreOn vars (book_after b (Del r n))
 without_on vars b r n on k = at_put b.clause n None (λ o. IfSome o (All (IsOn vars))) k (λ is. tt) (λ other. on k)
 
--- what a deletion spells
-deleted_on : (vars : ℕ) (b : Book) (n : ℕ) → AreOn vars b → All (IsOn vars) (unwrap_or (b.clause n) [])
-deleted_on vars b n on = by (b.clause n) (on n)
+-- a property of what a number has where a round begins, as it was and in order
+pub by_order : (ns : List ℕ) (f : ℕ → Option (List Literal)) (n : ℕ) (P : Option (List Literal) → Type 0) → P (option_map clause_of (f n)) → P (f n) → P (respelled ns f n)
+by_order ns f n P ordered kept = by (list_any (λ (m : ℕ). m == n) ns)
   where
-    by : (o : Option (List Literal)) → IfSome o (All (IsOn vars)) → All (IsOn vars) (unwrap_or o [])
-    by None h = λ k d lt. absurd (omega arith)
-    by (Some c) h = h
+    by : (t : Bool) → P (if t then option_map clause_of (f n) else f n)
+    by true = ordered
+    by false = kept
+
+-- some clauses are put in order there
+round_on : (vars : ℕ) (b : Book) (x : RoundStart) → AreOn vars b → AreOn vars (book_after b (Round x))
+round_on vars b x on n = by_order x.starts b.clause n (λ o. IfSome o (All (IsOn vars))) (ordered (b.clause n) (on n)) (on n)
+  where
+    ordered : (o : Option (List Literal)) → IfSome o (All (IsOn vars)) → IfSome (option_map clause_of o) (All (IsOn vars))
+    ordered None h = tt
+    ordered (Some c) h = in_order_on vars c h
+
+-- what a deletion spells
+deleted_on : (vars : ℕ) (b : Book) (r n : ℕ) → AreOn vars b → All (IsOn vars) (spelled_by r (unwrap_or (b.clause n) []))
+deleted_on vars b r n on = by (r == RULER_RING) (b.clause n) (on n)
+  where
+    by : (t : Bool) (o : Option (List Literal)) → IfSome o (All (IsOn vars)) → All (IsOn vars) (if t then clause_of (unwrap_or o []) else unwrap_or o [])
+    by true None h = in_order_on vars [] (λ k d lt. absurd (omega arith))
+    by true (Some c) h = in_order_on vars c h
+    by false None h = λ k d lt. absurd (omega arith)
+    by false (Some c) h = h
 
 pub cons_All : {X : Type 0} (P : X → Type 0) (x : X) (xs : List X) → P x → All P xs → All P (x ∷ xs)
 cons_All P x xs p ps zero d lt = p
@@ -75,6 +94,7 @@ spelled_from vars few b (Add x ∷ es) on lits =
     cons_All (λ y. All (IsOn (2 ^ 30)) (lits_of y)) (AddLine x.lits) (lines_from (book_after b (Add x)) es) (spell_all vars few x.lits first)
     (spelled_from vars few (book_after b (Add x)) es (added_on vars b x on first) (λ k d lt. lits (suc k) d (omega arith)))
 spelled_from vars few b (Del r n ∷ es) on lits =
-    cons_All (λ y. All (IsOn (2 ^ 30)) (lits_of y)) (line_of_deletion b n) (lines_from (book_after b (Del r n)) es) (spell_all vars few (unwrap_or (b.clause n) []) (deleted_on vars b n on))
+    cons_All (λ y. All (IsOn (2 ^ 30)) (lits_of y)) (line_of_deletion b r n) (lines_from (book_after b (Del r n)) es) (spell_all vars few (spelled_by r (unwrap_or (b.clause n) [])) (deleted_on vars b r n on))
     (spelled_from vars few (book_after b (Del r n)) es (without_on vars b r n on) lits)
 spelled_from vars few b (Reduce r ∷ es) on lits = spelled_from vars few b es on lits
+spelled_from vars few b (Round x ∷ es) on lits = spelled_from vars few (book_after b (Round x)) es (round_on vars b x on) lits

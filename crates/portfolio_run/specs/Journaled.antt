@@ -1,18 +1,20 @@
 -- The journal of a run, and what the writer of its proof holds.
-use Rattle.std.specs.Prelude.{◌≡◌, ◌⊎◌, ◌<◌, ℕ, List, [], ◌∷◌, ◌++◌, take, All, true, false, ⊤}
+use Rattle.std.specs.Prelude.{◌≡◌, ◌⊎◌, ℕ, List, [], ◌∷◌, ◌++◌, map, take, All, IfSome, true, false, ⊤}
 use Rattle.std.specs.List.{list_any}
 use Rattle.std.specs.declared.option.Option.{Option}
 use Rattle.sat_words.specs.Literal.{Literal}
-use Rattle.sat_words.specs.Clause.{is_empty}
+use Rattle.sat_words.specs.Clause.{has, is_empty}
 use Rattle.sat_words.specs.declared.line.Line.{Line}
 use Rattle.sat_words.specs.declared.line.ProofFormat.{ProofFormat}
+use Rattle.rup_model.specs.declared.journal.Round.{Round as RoundStart}
 use Rattle.rup_model.specs.declared.journal.Entry.{Entry}
-use Rattle.rup_model.specs.declared.journal.Entry.TheVariants.{Add, Del, Reduce}
+use Rattle.rup_model.specs.declared.journal.Entry.TheVariants.{Add, Del, Reduce, Round}
 use Rattle.rup_model.specs.Basics.{EachAfter}
 use Rattle.rup_model.specs.Log.{Accepted}
-use Rattle.rup_model.specs.Journal.{added, lines, ring_of, Fits, EmptyLast, IsSpaced}
-use Rattle.rup_model.specs.Opening.{is_rulers, program_opening, IsNew}
-use Rattle.rup_model.specs.Spent.{ruler_part, rings_part}
+use Rattle.rup_model.specs.Journal.{added, lines, round_of, Fits, EmptyLast}
+use Rattle.rup_model.specs.Opening.{is_rulers, program_opening}
+use Rattle.rup_model.specs.Windows.{begins_round, IsNewInRound, IsSpacedInRound}
+use Rattle.core_rounds.specs.InRounds.{IsOfRounds}
 use Rattle.drat_text.specs.Text.{CanBeSpelled}
 use Rattle.drat_text.specs.Spelling.{spelling, proof_bytes}
 use Rattle.log_book.specs.Kept.{HoldsText}
@@ -24,23 +26,36 @@ abbrev pub IsRingsEntry : Entry → Type 0
 IsRingsEntry (Add x) = IsOfKind x.kind x.lits
 IsRingsEntry (Del r n) = ⊤
 IsRingsEntry (Reduce r) = ⊤
+IsRingsEntry (Round x) = ⊥
 
--- an entry of the ruler, or of a ring
+-- an entry of the ruler, one that begins a round, or one of a ring
 abbrev pub IsPlainEntry : Entry → Type 0
-IsPlainEntry e = (is_rulers e ≡ true) ⊎ IsRingsEntry e
+IsPlainEntry e = (is_rulers e ≡ true) ⊎ (begins_round e ≡ true) ⊎ IsRingsEntry e
+
+-- a round begins after this journal as the program's opening says: with the numbers of its start clauses, in their order, and its
+-- units
+pub record IsProgramRound (clauses : List (List Literal)) (before : List Entry) (x : RoundStart) : Type 0 where
+  pub starts : x.starts ≡ map (λ s. s.number) (program_opening clauses before).starts
+  pub units : (l : Literal) → has x.units l ≡ has (program_opening clauses before).units l
+
+-- if the entry begins a round, it begins so
+abbrev pub BeginsWell : List (List Literal) → List Entry → Entry → Type 0
+BeginsWell clauses before e = IfSome (round_of e) (IsProgramRound clauses before)
 
 -- a journal of this many rings: its numbers fit, each line is valid where it stands, nothing follows the empty clause,
--- its lines can be spelled, what the ruler didn't write is of one of the rings, each clause that a ring learned was new
--- when it was added, and enough were learned before each Reduce entry since the one before
+-- its lines can be spelled; each entry is the ruler's, begins a round as the program's opening says, or is of one of the rings;
+-- each clause that a ring learned was new in its round when it was added, and enough were learned in the round before each
+-- Reduce entry since the one before
 pub record IsJournal (rings : ℕ) (clauses : List (List Literal)) (journal : List Entry) : Type 0 where
   pub fits : Fits clauses journal
   pub accepted : Accepted clauses (lines clauses journal)
   pub last : EmptyLast journal
   pub spelled : CanBeSpelled (lines clauses journal)
-  pub of_rings : All (λ e. ring_of e < rings) (rings_part journal)
+  pub of_rounds : All (IsOfRounds rings) journal
   pub plain : All IsPlainEntry journal
-  pub each_new : EachAfter (IsNew (program_opening clauses (ruler_part journal))) [] journal
-  pub spaced : EachAfter IsSpaced [] journal
+  pub begins : EachAfter (BeginsWell clauses) [] journal
+  pub each_new : EachAfter (IsNewInRound clauses) [] journal
+  pub spaced : EachAfter IsSpacedInRound [] journal
 
 -- no entry adds the empty clause
 abbrev pub IsUnrefuted : List Entry → Type 0

@@ -11,4 +11,5 @@ pub mod Runs
 pub mod Searched
 pub mod Seats
 pub mod Solved
+pub mod Spent
 pub mod Tables

@@ -1,6 +1,6 @@
 -- What is known before the proof is finished: of the book, of the answer, of the ruler and of the rings.
 use Rattle.io_edge.specs.declared.edge.Sink.{Ghosts}
-use Rattle.std.specs.Prelude.{◌≡◌, ◌≤◌, ◌<◌, ◌^◌, ◌+◌, ℕ, false, List, [], length, slice_index_or, Option, Some, is_some, Result}
+use Rattle.std.specs.Prelude.{◌≡◌, ◌≤◌, ◌<◌, ◌^◌, ◌+◌, ℕ, false, List, [], length, slice_index_or, Option, Some, is_some, Result, All}
 use mathlib.Core.Option.{some}
 use lib.ListN.{get_elem?}
 use Rattle.atomic_table.specs.declared.shared.Seat.{Seat}
@@ -36,7 +36,7 @@ use Rattle.portfolio_run.specs.Ends.{AreEndsOf}
 use Rattle.portfolio_run.specs.Noted.{RulersRun}
 use Rattle.portfolio_run.specs.Ruled.{schedule_of}
 use Rattle.portfolio_run.specs.Runs.{RanAs}
-use Rattle.portfolio_run.specs.Seats.{IsAtRest, IsSameTable}
+use Rattle.portfolio_run.specs.Seats.{IsAtRest, IsSameTable, IsSettled}
 use Rattle.portfolio_run.specs.Solved.{IsReached}
 
 -- The book
@@ -86,13 +86,15 @@ pub record HasReached {S : Type 0} {d : Ghosts S} (written flushed target : S �
 
 -- The rings
 
--- after the rings' runs the table's first pass has all their parts, each at its ring's place, and no ring has the turn
+-- after the rings' runs the table's first pass has all their parts, each at its ring's place; no ring has the turn or builds a cell,
+-- and each unit that one of them wrote is listed
 pub record IsGathered {B : Type 0} (t : Shared B) (v : View) (p : Seat (Option B) View) : Type 0 where
   pub pass : IsAtRest t p
   pub same : IsSameTable v p.me.0
   pub whole : IsWhole p.me.0
   pub many : length p.me.0.parts ≡ v.opening.rings
   pub free : NoTurns p.me.0.parts
+  pub settled : All IsSettled p.me.0.parts
 
 -- the ring ran, and its part stands at its place
 pub record RanAt (v : View) (home : List ℕ) (plan : Plan) (w : View) (ring : ℕ) (end : End) (counts : Counts) : Type 0 where

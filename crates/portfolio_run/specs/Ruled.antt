@@ -17,7 +17,7 @@ abbrev pub schedule_of : Plan → Schedule
 schedule_of plan = record { rounds = plan.rounds; additions = plan.additions }
 
 -- the simplifiers ran over the formula in the rounds of this schedule, their lines going to an output that had none, wrote the front
--- of the journal and came to this; no ring wrote anything unless they were done
+-- of the journal and came to this; no round began and no ring wrote anything unless they were done
 pub record IsRuled (formula : FormulaData) (schedule : Schedule) (journal : List Entry) : Type 0 where
   pub output : LineState
   pub unspent : output.spent ≡ false

@@ -16,9 +16,9 @@ use Rattle.portfolio_run.specs.declared.plan.Plan.{Plan}
 use Rattle.portfolio_run.specs.Ends.{set_of}
 use Rattle.portfolio_run.specs.Jobs.{RanTo}
 use Rattle.portfolio_run.specs.Ports.{begun_at, job_at}
-use Rattle.portfolio_run.specs.Seats.{IsAtRest, HasRing}
+use Rattle.portfolio_run.specs.Seats.{IsAtRest, HasRing, IsSettled}
 
--- the pass shows what its port did, and the end is the ring's
+-- the pass shows what its port did, the ring is settled, and the end is the ring's
 pub record Shows {B : Type 0} (t : Shared B) (s : PortState) (end : Option (End × Counts)) (p : Seat (Option B) View) (e : End × Counts) : Type 0 where
   pub pass : IsAtRest t p
   pub one : p.me.0.parts ≡ only p.me.0 ∷ []
@@ -29,6 +29,7 @@ pub record Shows {B : Type 0} (t : Shared B) (s : PortState) (end : Option (End 
   pub refused_is : s.refused ≡ last_refusal (only p.me.0)
   pub faulty_is : is_usable s.refused ≡ false → (only p.me.0).failed ≡ true
   pub alone_is : p.me.0.opening.rings ≡ 1 → (only p.me.0).failed ≡ true → is_usable s.refused ≡ false
+  pub settled : IsSettled (only p.me.0)
   pub end_is : end ≡ Some e
 
 -- the ring ran over the table that was opened so, and came to this end; its part is what its port shows, with what the port

@@ -8,6 +8,7 @@ use Rattle.share_rule.specs.Passes.{IsPassOf}
 use Rattle.share_rule.specs.Steps.{new_part}
 use Rattle.share_core.specs.declared.event.Stop.{Stop}
 use Rattle.share_rule.specs.Views.{times_in, only, first_of}
+use Rattle.ring_pass.specs.RingState.{HasListed}
 
 -- what the table was opened with is the same
 pub record IsSameTable (old new : View) : Type 0 where
@@ -48,12 +49,17 @@ abbrev pub stop_among : {B : Type 0} → Option Stop → List (Seat (Option B) V
 stop_among s [] = s
 stop_among s (p ∷ ps) = stop_among (first_of s p.me.0.stop) ps
 
--- the pass has this ring alone, which has not the turn, and nothing in hand
+-- the ring builds no cell, and each unit that it wrote is listed
+abbrev pub IsSettled : RingPart → Type 0
+IsSettled p = (p.core.making ≡ []) × HasListed p
+
+-- the pass has this ring alone, which has not the turn and is settled, and nothing in hand
 pub record HasRing {B : Type 0} (t : Shared B) (ring : ℕ) (p : Seat (Option B) View) : Type 0 where
   pub pass : IsAtRest t p
   pub one : p.me.0.parts ≡ only p.me.0 ∷ []
   pub ring_is : (only p.me.0).core.ring ≡ ring
   pub free : (only p.me.0).turn ≡ None
+  pub settled : IsSettled (only p.me.0)
 
 -- and which has written nothing, and alone was told of no failed write
 pub record HasIdle {B : Type 0} (t : Shared B) (ring : ℕ) (p : Seat (Option B) View) : Type 0 where

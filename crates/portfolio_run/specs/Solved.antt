@@ -10,8 +10,8 @@ use Rattle.sat_words.specs.declared.line.ProofFormat.{ProofFormat}
 use Rattle.sat_words.specs.declared.shared.TheConstants.{STOP_SAT, STOP_REFUTED, STOP_ROOM, STOP_PROOF, STOP_MEMORY}
 use Rattle.rup_model.specs.declared.journal.Entry.{Entry}
 use Rattle.rup_model.specs.Log.{Refutes}
+use Rattle.rup_model.specs.declared.journal.TheConstants.{RULER_RING}
 use Rattle.rup_model.specs.Journal.{ring_of, lines}
-use Rattle.rup_model.specs.Spent.{SpentAll, ruler_part}
 use Rattle.drat_text.specs.Spelling.{proof_bytes}
 use Rattle.log_book.specs.Ended.{IsClosed}
 use Rattle.log_book.specs.Kept.{HoldsText, IsFrontTold}
@@ -23,6 +23,7 @@ use Rattle.portfolio_run.specs.Held.{IsHeld, HasStop, NeverGone}
 use Rattle.portfolio_run.specs.Journaled.{IsJournal, IsUnrefuted, IsCutShort}
 use Rattle.portfolio_run.specs.Room.{HasNoRoom}
 use Rattle.portfolio_run.specs.Ruled.{schedule_of, IsRuled, IsRuledThrough}
+use Rattle.portfolio_run.specs.Spent.{LearnedAll}
 
 -- a value for each variable, which make each clause true
 pub record IsModel (formula : FormulaData) (model : List Bool) : Type 0 where
@@ -34,13 +35,13 @@ pub record IsRefutation (clauses : List (List Literal)) (journal : List Entry) :
   pub refuted : Refutes clauses (lines clauses journal)
   pub no_model : (model : List Bool) → formula_true model clauses ≡ true → ⊥
 
--- no draw of one of the rings has found all tickets gone, and neither it nor the ruler has added the empty clause
-pub record IsUnsettled {rings slots limit : ℕ} {clauses : List (List Literal)} {journal : List Entry} {tally : List Counts} (held : IsHeld rings slots limit clauses journal tally) : Type 0 where
+-- no draw of one of the rings has found all tickets of its round gone, and neither it nor the ruler has added the empty clause
+pub record IsUnsettled {rings slots : ℕ} {every : Option ℕ} {most : ℕ} {clauses : List (List Literal)} {journal : List Entry} {tally : List Counts} (held : IsHeld rings slots every most clauses journal tally) : Type 0 where
   pub ring : ℕ
   pub below : ring < rings
   pub tickets : NeverGone held ring
   pub going : IsUnrefuted (filter (λ e. ring_of e == ring) journal)
-  pub rulers : IsUnrefuted (ruler_part journal)
+  pub rulers : IsUnrefuted (filter (λ e. ring_of e == RULER_RING) journal)
 
 -- the answer is a verdict on the formula
 abbrev pub is_verdict : Answer → Bool
@@ -61,13 +62,13 @@ unfinished ProofFault = ProofFault
 unfinished Memory = Memory
 
 -- what the answer says of the formula, the journal and the rings' steps, if a table is over so many variables: a model; a
--- refutation; the rings together have learned as many lemmas as they may, each of them new; there was no room for what came next, or
--- no memory, before all was settled
-abbrev pub Holds : (plan : Plan) → ℕ → (formula : FormulaData) → (journal : List Entry) → {tally : List Counts} → IsHeld plan.threads plan.slots plan.conflicts formula.clauses journal tally → Answer → Type 0
+-- refutation; the rings together have learned as many lemmas as they may, each of them new in its round; there was no room for what
+-- came next, or no memory, before all was settled
+abbrev pub Holds : (plan : Plan) → ℕ → (formula : FormulaData) → (journal : List Entry) → {tally : List Counts} → IsHeld plan.threads plan.slots None plan.conflicts formula.clauses journal tally → Answer → Type 0
 Holds plan vars formula journal held (Sat model) = IsModel formula model
 Holds plan vars formula journal held Unsat = IsRefutation formula.clauses journal
-Holds plan vars formula journal held Unknown = SpentAll formula.clauses journal plan.threads plan.conflicts
-Holds plan vars formula journal held (NoHole lack) = HasNoRoom plan vars formula.clauses journal lack × IsUnsettled held
+Holds plan vars formula journal held Unknown = LearnedAll formula.clauses journal plan.threads None plan.conflicts
+Holds plan vars formula journal held (NoHole lack) = HasNoRoom plan vars held lack × IsUnsettled held
 Holds plan vars formula journal held ProofFault = ⊤
 Holds plan vars formula journal held Memory = IsUnsettled held
 
@@ -86,13 +87,13 @@ pub record FaultsFit (plan : Plan) (formula : FormulaData) (journal : List Entry
   pub rose : kind ≡ Some STOP_PROOF → Rose before searched
   pub calm : kind ≢ Some STOP_PROOF → (searched ≡ before) ⊎ ((2 ≤ plan.threads) × IsRuledThrough formula (schedule_of plan) journal)
 
--- a search has come to this answer, which holds, over this journal: it begins with what the ruler wrote in the plan's rounds, and the
--- rings' steps leave it, with the stop of this answer; a verdict comes only if the simplifiers came to their end. The table's
+-- a search has come to this answer, which holds, over this journal: it begins with what the ruler wrote in the plan's rounds, and
+-- rounds of the rings leave it, with the stop of this answer; a verdict comes only if the simplifiers came to their end. The table's
 -- variables are those that the ruler left. The sink of the proof had failed this often before the search, and this often by then.
 pub record IsReached (plan : Plan) (formula : FormulaData) (answer : Answer) (tally : List Counts) (before searched : ℕ) (journal : List Entry) : Type 0 where
   pub stands : IsJournal plan.threads formula.clauses journal
   pub ruled : IsRuled formula (schedule_of plan) journal
-  pub held : IsHeld plan.threads plan.slots plan.conflicts formula.clauses journal tally
+  pub held : IsHeld plan.threads plan.slots None plan.conflicts formula.clauses journal tally
   pub stop : HasStop held (kind_of answer)
   pub holds : Holds plan ruled.work.vars formula journal held answer
   pub through : is_verdict answer ≡ true → IsRuledThrough formula (schedule_of plan) journal

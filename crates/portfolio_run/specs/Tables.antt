@@ -7,6 +7,7 @@ use Rattle.sat_words.specs.FormulaData.{FormulaData}
 use Rattle.sat_words.specs.declared.shared.Cref.{Cref}
 use Rattle.ruler_simp.specs.declared.ruling.Outcome.TheVariants.{Simplified as LeftOver}
 use Rattle.ruler_simp.specs.declared.ruling.Simplified.{Simplified}
+use Rattle.ruler_simp.specs.Again.{before_round}
 use Rattle.share_rule.specs.declared.Shared.{Shared}
 use Rattle.share_rule.specs.declared.view.BookOrigin.{BookOrigin}
 use Rattle.share_rule.specs.declared.view.View.{View}
@@ -23,8 +24,9 @@ use Rattle.portfolio_run.specs.Room.{layout_of}
 use Rattle.portfolio_run.specs.Searched.{HasSearched}
 
 module _ {S : Type 0} {d : Ghosts S} (written flushed target : S → Option (List ℕ)) (faults : S → ℕ) where
-  -- the table is open over what the ruler left, on the variables that are left, for the plan's rings, words, slots and lemmas; its
-  -- first pass knows no more than that, and the book's origin is the sink, with the plan's format
+  -- the first round has begun after the ruler's journal, and the table is open over what the ruler left, on the variables that are
+  -- left, for the plan's rings, words, slots and lemmas; its first pass knows no more than that, and the book's origin is the sink,
+  -- with the plan's format
   pub record IsOpened (sink : S) (plan : Plan) (formula : FormulaData) (left : Simplified) (t : Shared (Book S d)) (p : Seat (Option (Book S d)) View) (cells : List Cref) : Type 0 where
     pub book : Book S d
     pub was : WasRuled written flushed target faults sink plan formula book (Ok (LeftOver left))
@@ -35,7 +37,7 @@ module _ {S : Type 0} {d : Ghosts S} (written flushed target : S → Option (Lis
     pub keeps_are : origin.keeps ≡ plan.keep_lines
     pub layout_is : t.layout ≡ layout_of plan left.vars
     pub pass : IsPassOf t p
-    pub me : p.me ≡ (first_view t.layout (begun_with formula.clauses t.layout was.ruled.journal left.start.items left.units.items) origin, [])
+    pub me : p.me ≡ (first_view t.layout (begun_with formula.clauses t.layout (before_round was.ruled.journal left) left.start.items left.units.items) origin, [])
     pub cells_are : cells ≡ addresses p.me.0.opening.starts
 
   -- the search over such a table has come to this answer

@@ -5,7 +5,7 @@ ghost use Rattle.io_edge.specs.Paths.{IsEmptyWhereTold};
 ghost use Rattle.sat_words.specs.Literal.{IsOn};
 ghost use Rattle.ruler_simp.specs.declared.ruling.Outcome.TheVariants.{Simplified as LeftOver};
 ghost use Rattle.portfolio_run.specs.Held.{no_counts};
-ghost use Rattle.portfolio_run.specs.Reached.{WasRuled, run_to, stopped_answer, unmade_answer};
+ghost use Rattle.portfolio_run.specs.Reached.{WasRuled, run_to};
 ghost use Rattle.portfolio_run.specs.Noted.{RulersRun, WroteSo};
 ghost use Rattle.rup_model.specs.declared.journal.Entry.{Entry};
 ghost use Rattle.portfolio_run.specs.Solved.{IsSolved};
@@ -16,16 +16,13 @@ use crate::finish::finish;
 use crate::noted::Noted;
 use crate::plan::Plan;
 use crate::search::search;
-use crate::tables::{close_table, open_table};
-use clause_cell::HoleStop;
-use drat_text::LineStop;
+use crate::tables::{Unopened, answer_of_stop, close_table, open_table};
 use io_edge::Sink;
 use log_book::Book;
 use ring_port::Gate;
 use ring_run::Counts;
 use ruler_simp::{Outcome, Schedule, Simplified, simplify};
-use sat_words::{Formula, MAX_ENTRIES, NoRoom};
-use share_rule::MakeStop;
+use sat_words::Formula;
 use std::alloc::{AllocError, Global};
 use std::sync::Wait;
 use std::thread::Threads;
@@ -41,30 +38,6 @@ fn none_counted(alloc: Global, rings: u32) -> Result<Vec<Counts>, AllocError>
         restarts: 0,
     };
     vec![in alloc; none; rings as usize]
-}
-
-/// The answer where the ruler was stopped.
-fn answer_of_stop(stop: LineStop) -> Answer
-    ensures { result ≡ stopped_answer stop }
-{
-    match stop {
-        LineStop::ProofFault => Answer::ProofFault,
-        LineStop::Full => Answer::NoHole(NoRoom {
-            need: MAX_ENTRIES + 1,
-            largest: MAX_ENTRIES,
-        }),
-        LineStop::Memory => Answer::Memory,
-    }
-}
-
-/// The answer where no table could be made.
-fn answer_of_hole(why: HoleStop) -> Answer
-    ensures { result ≡ unmade_answer why }
-{
-    match why {
-        HoleStop::NoHole { need, largest } => Answer::NoHole(NoRoom { need, largest }),
-        HoleStop::Memory => Answer::Memory,
-    }
 }
 
 /// Memory ran out before a line was put: the sink is flushed, and given back.
@@ -133,7 +106,7 @@ fn solve_noted<S: Sink + Send, G: Gate + Sync, H: Threads + Wait + Sync>(
             );
             close_table(table, first, answer, tally, formula, plan)
         }
-        Err(MakeStop { why, book }) => finish(book, answer_of_hole(why), tally, formula, plan),
+        Err(Unopened { answer, book }) => finish(book, answer, tally, formula, plan),
     }
 }
 

@@ -8,32 +8,68 @@ ghost use Rattle.ring_run.specs.declared.job.Counts.{Counts as CountsData};
 ghost use Rattle.ruler_simp.specs.declared.ruling.Outcome.TheVariants.{Simplified as LeftOver};
 ghost use Rattle.portfolio_run.specs.Held.{no_counts};
 ghost use Rattle.portfolio_run.specs.Noted.{WroteSo};
-ghost use Rattle.portfolio_run.specs.Reached.{HasReached, run_to, unmade_answer};
+ghost use Rattle.portfolio_run.specs.Reached.{HasReached, run_to, stopped_answer, unmade_answer};
 ghost use Rattle.portfolio_run.specs.Solved.{IsSolved};
 ghost use Rattle.portfolio_run.specs.Tables.{IsOpened, HasSettled};
 
 use crate::answer::{Answer, Solved};
 use crate::finish::finish;
 use crate::plan::Plan;
+use clause_cell::HoleStop;
+use drat_text::LineStop;
 use io_edge::Sink;
 use log_book::Book;
 use ring_run::Counts;
 use ruler_simp::Simplified;
-use sat_words::{Cref, Formula};
+use sat_words::{Cref, Formula, MAX_ENTRIES, NoRoom};
 use share_rule::{Layout, MakeStop, Pass, Shared, close, make};
 use std::alloc::Global;
 
 /// A table with its first pass and the addresses of the start clauses.
 pub(crate) type Opened<S> = (Shared<Book<S>>, Pass<Book<S>>, Vec<Cref>);
 
-/// Opens a table for the plan's rings over what the ruler left. Refused for want of room or memory it gives the book back.
+/// The answer where there is no table, and the book.
+#[derive(Drop)]
+pub(crate) struct Unopened<S: Sink> {
+    /// The answer.
+    pub(crate) answer: Answer,
+    /// The book, as far as it came.
+    pub(crate) book: Book<S>,
+}
+
+/// The answer where the log was stopped before the rings.
+pub(crate) fn answer_of_stop(stop: LineStop) -> Answer
+    ensures { result ≡ stopped_answer stop }
+{
+    match stop {
+        LineStop::ProofFault => Answer::ProofFault,
+        LineStop::Full => Answer::NoHole(NoRoom {
+            need: MAX_ENTRIES + 1,
+            largest: MAX_ENTRIES,
+        }),
+        LineStop::Memory => Answer::Memory,
+    }
+}
+
+/// The answer where no table could be made.
+fn answer_of_hole(why: HoleStop) -> Answer
+    ensures { result ≡ unmade_answer why }
+{
+    match why {
+        HoleStop::NoHole { need, largest } => Answer::NoHole(NoRoom { need, largest }),
+        HoleStop::Memory => Answer::Memory,
+    }
+}
+
+/// Begins the first round in the log, and opens a table for the plan's rings over what the ruler left. Refused for want of
+/// room or memory it gives the book back.
 pub(crate) fn open_table<S: Sink>(
     alloc: Global,
     formula: &Formula,
     plan: &Plan,
     left: &Simplified,
     book: Book<S>,
-) -> Result<Opened<S>, MakeStop<Book<S>>>
+) -> Result<Opened<S>, Unopened<S>>
     ghost known: { S × List Entry }
     requires threads { (1 ≤ plan.now.threads) × (plan.now.threads ≤ 16) }
     requires conflicts { plan.now.conflicts ≤ 10 ^ 12 }
@@ -44,9 +80,19 @@ pub(crate) fn open_table<S: Sink>(
     requires empty { IsEmptyWhereTold (S.written known.0) }
     requires wrote { WroteSo (run_to S.written S.flushed S.target S.faults known.0 plan.now formula.now book (Ok (LeftOver left.now))) known.1 }
     ensures opened { IfOk result (λ m. IsOpened S.written S.flushed S.target S.faults known.0 plan.now formula.now left.now m.0 m.1 m.2.items) }
-    ensures unmade { IfErr result (λ e. (tally : List CountsData) → tally ≡ replicate plan.now.threads no_counts → HasReached S.written S.flushed S.target S.faults known.0 plan.now formula.now (unmade_answer e.why) tally e.book) }
+    ensures unopened { IfErr result (λ e. (tally : List CountsData) → tally ≡ replicate plan.now.threads no_counts → HasReached S.written S.flushed S.target S.faults known.0 plan.now formula.now e.answer tally e.book) }
 {
+    let mut book = book;
+    // No ring has run, so none has ended the log.
+    book.ended = false;
+    let begun = book.open_round();
     book.has_its_log();
+    if let Err(stop) = begun {
+        return Err(Unopened {
+            answer: answer_of_stop(stop),
+            book,
+        });
+    }
     let layout = Layout {
         rings: plan.threads,
         vars: left.vars,
@@ -54,14 +100,20 @@ pub(crate) fn open_table<S: Sink>(
         depth: plan.slots,
         conflicts: plan.conflicts,
     };
-    make(
+    match make(
         alloc,
         formula,
         layout,
         left.start.as_slice(),
         left.units.as_slice(),
         book,
-    )
+    ) {
+        Ok(opened) => Ok(opened),
+        Err(MakeStop { why, book }) => Err(Unopened {
+            answer: answer_of_hole(why),
+            book,
+        }),
+    }
 }
 
 /// Takes the table apart after the search, and finishes the proof.

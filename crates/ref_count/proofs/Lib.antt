@@ -1,3 +1,2 @@
-mod Decoding
 pub mod Loaded
 mod Waiting

@@ -15,7 +15,7 @@ use Rattle.share_rule.specs.Layout.{InVars}
 use Rattle.share_rule.specs.Steps.{after_load}
 use Rattle.share_rule.specs.Views.{only, no_part, clause_in, clause_of, IsHolding}
 use Rattle.ref_count.specs.Scans.{OnlyLoaded}
-use Rattle.ref_count.proofs.Decoding.{Decoded, decoded}
+use Rattle.share_rule.proofs.Decoding.{Decoded, decoded}
 
 only_same : (v w : View) → OnlyLoaded v w → only w ≡ only v
 only_same v w h = ap (λ (ps : List RingPart). slice_index_or ps 0 no_part) h.parts

@@ -1,8 +1,8 @@
 -- A ring that begins, and one that ends.
 use Rattle.std.proofs.Common.{◌≡◌, ◌<◌, true, false, true≢false, List, [], ◌∷◌, map, drop, get_or, refl, sym, ap, subst, ◌∙◌, arith, Option, Some, None, IsSome}
-use Rattle.std.specs.List.{All}
+use Rattle.std.specs.List.{All, list_any}
 use Rattle.sat_words.specs.Literal.{Literal}
-use Rattle.sat_words.specs.Clause.{has, distinct_lits}
+use Rattle.sat_words.specs.Clause.{has, distinct_lits, same_set}
 use Rattle.sat_words.specs.declared.shared.Cref.{Cref}
 use Rattle.rup_model.proofs.Lists.{In, map_In, In_Contains}
 use Rattle.rup_model.proofs.ProgramOpening.{All_from_In}
@@ -24,10 +24,12 @@ use Rattle.ring_pass.specs.RingState.{Own, port_of, home_of, holding_of, IsOwn}
 use Rattle.ring_pass.proofs.RingPorts.{there_here}
 use Rattle.ring_pass.specs.Refusals.{answer_noted}
 use Rattle.std.specs.Option.{option_map}
+use Rattle.rup_model.specs.Journal.{added}
+use Rattle.share_core.specs.declared.part.Placed.{Placed}
 
 -- nothing is kept yet
-pub own_begun : (p : RingPart) (o : Own) → o.arrived ≡ [] → o.passed ≡ 0 → o.taken ≡ [] → o.ended ≡ false → o.refused ≡ None → p.refused ≡ None → IsOwn p o
-own_begun p o none zero_is empty going fine quiet = record {
+pub own_begun : (p : RingPart) (o : Own) → o.arrived ≡ [] → o.passed ≡ 0 → o.taken ≡ [] → o.ended ≡ false → o.refused ≡ None → p.refused ≡ None → p.core.making ≡ [] → p.core.wrote ≡ [] → IsOwn p o
+own_begun p o none zero_is empty going fine quiet built idle = record {
   passed = let z = zero_is in omega arith;
   distinct = subst (λ (ls : List Literal). distinct_lits ls ≡ true) (sym none) refl;
   told = subst (λ (ls : List Literal). All (λ l. has p.core.seen l ≡ true) ls) (sym none) (λ k d lt. absurd (omega arith));
@@ -35,6 +37,8 @@ own_begun p o none zero_is empty going fine quiet = record {
   ended_is = λ e. absurd (true≢false (sym e ∙ going));
   refused_is = fine ∙ ap (option_map answer_noted) (sym quiet);
   faulty_is = λ e. absurd (true≢false (sym (ap is_usable fine) ∙ e));
+  making = built;
+  listed = λ l w. absurd (true≢false (sym w ∙ ap (λ (ws : List Placed). list_any (same_set (l ∷ [])) (added (map (λ (e : Placed). e.entry) ws))) idle));
 }
 
 -- if the start clauses are all that is held, each is found at its address

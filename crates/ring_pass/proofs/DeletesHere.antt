@@ -35,6 +35,7 @@ use Rattle.ring_pass.proofs.RingPorts.{rings_here}
 use Rattle.ring_pass.proofs.Stays.{only_is, one_is, units_keep}
 use Rattle.ring_pass.proofs.TurnsHere.{refused_here, room_refused, units_refused, ring_turns, end_refused, fault_refused, fault_alone, answer_here}
 use Rattle.std.specs.Option.{option_map}
+use Rattle.ring_pass.proofs.AllListed.{AddNone, listed_more}
 
 -- Lists
 
@@ -114,9 +115,14 @@ tidied_here v w o k home own d hm = record {
     mine : entries_of d.part ≡ (port_of v o).mine ++ deletions (only v).core.ring (take k (port_of v o).waiting)
     mine = d.wrote ∙ ap (λ (es : List Entry). entries_of (only v) ++ es) (dels_take (only v).glues (only v).core.ring k (only v).core.waiting)
 
+-- they add no unit
+deletions_none : (r : ℕ) (hs : List ClauseAt) → AddNone (deletions_of r hs)
+deletions_none r [] l = refl
+deletions_none r (h ∷ hs) l = deletions_none r hs l
+
 -- what is kept beside stays
-own_deleted : (v : View) (o : Own) (p : RingPart) (home : List ℕ) → p.core ≡ record (only v).core { waiting = p.core.waiting; wrote = p.core.wrote } → ((only v).ended ≡ true → p.ended ≡ true) → ((only v).failed ≡ true → p.failed ≡ true) → p.refused ≡ (only v).refused → IsOwn (only v) o → IsOwn p (record o { home = home })
-own_deleted v o p home core end fail refused own = record {
+own_deleted : (v : View) (o : Own) (p : RingPart) (home : List ℕ) → p.core ≡ record (only v).core { waiting = p.core.waiting; wrote = p.core.wrote } → ((only v).ended ≡ true → p.ended ≡ true) → ((only v).failed ≡ true → p.failed ≡ true) → p.refused ≡ (only v).refused → (hs : List ClauseAt) → entries_of p ≡ entries_of (only v) ++ deletions_of (only v).core.ring hs → IsOwn (only v) o → IsOwn p (record o { home = home })
+own_deleted v o p home core end fail refused hs wrote own = record {
   passed = own.passed;
   distinct = own.distinct;
   told = subst (λ (ls : List Literal). All (λ l. has ls l ≡ true) o.arrived) (sym (ap (λ (c : Part). c.seen) core)) own.told;
@@ -124,10 +130,12 @@ own_deleted v o p home core end fail refused own = record {
   ended_is = λ e. end (own.ended_is e);
   refused_is = own.refused_is ∙ ap (option_map answer_noted) (sym refused);
   faulty_is = λ e. fail (own.faulty_is e);
+  making = ap (λ (c : Part). c.making) core ∙ own.making;
+  listed = listed_more (only v) p (deletions_of (only v).core.ring hs) wrote (ap (λ (c : Part). c.seen) core) (deletions_none (only v).core.ring hs) own.listed;
 }
 
 pub ring_deleted : {B : Type 0} {t : Shared B} {p : Seat (Option B) View} {n : ℕ} {st : List Cref} {o : Own} (q : Seat (Option B) View) (k : ℕ) → IsRingPass t p n st o → IsPassOf t q → q.id ≡ p.id → q.me.1 ≡ [] → Deleted p.me.0 q.me.0 k → IsRingPass t q n st (record o { home = home_of q })
-ring_deleted {B} {t} {p} {n} {st} {o} q k r pass id slots d = ring_turns q d.part (record o { home = home_of q }) r pass id slots d.opening d.parts (ap (λ (c : Part). c.ring) d.core) d.turn refl (own_deleted p.me.0 o d.part (home_of q) d.core d.ended_is d.failed_is d.refused r.own)
+ring_deleted {B} {t} {p} {n} {st} {o} q k r pass id slots d = ring_turns q d.part (record o { home = home_of q }) r pass id slots d.opening d.parts (ap (λ (c : Part). c.ring) d.core) d.turn refl (own_deleted p.me.0 o d.part (home_of q) d.core d.ended_is d.failed_is d.refused (take k (only p.me.0).core.waiting) d.wrote r.own)
     (λ lone e. r.alone_is lone (d.failed_was e))
 
 -- fewer wait, in as much room
@@ -157,7 +165,7 @@ units_deleted v w k seen a b d m = units_keep v w seen a b (ap (λ (p : RingPart
 
 -- at the ring, before what was refused
 own_middle : (v m : View) (o : Own) (k : ℕ) → Deleted v m k → IsOwn (only v) o → IsOwn (only m) o
-own_middle v m o k d own = subst (λ (p : RingPart). IsOwn p o) (sym (only_is m d.part d.parts)) (own_deleted v o d.part o.home d.core d.ended_is d.failed_is d.refused own)
+own_middle v m o k d own = subst (λ (p : RingPart). IsOwn p o) (sym (only_is m d.part d.parts)) (own_deleted v o d.part o.home d.core d.ended_is d.failed_is d.refused (take k (only v).core.waiting) d.wrote own)
 
 pub tidied_some : {B : Type 0} {t : Shared B} {p : Seat (Option B) View} {n : ℕ} {st : List Cref} {u : View} {many k : ℕ} {e : TurnStop} (o : Own) (s : PortState) (kept : Option PortStop) (over : Bool) (stop : PortStop) (home : List ℕ) → port_of p.me.0 o ≡ s → IsRingPass t p n st o → is_usable s.refused ≡ true → DeletedSome p.me.0 u many k e
     → many ≡ length (only p.me.0).core.waiting → kept ≡ refused_after e o.refused → over ≡ ended_after e o.ended → stop ≡ port_stop e → home ≡ o.home → TidiedSome s (port_of u (record o { refused = kept; ended = over; home = home })) stop
@@ -185,7 +193,7 @@ ring_some {B} {t} {p} {n} {st} {o} q many k e kept over r usable pass id slots d
     let own = own_middle p.me.0 m o k d.first r.own in
     let ring : (only m).core.ring ≡ (only p.me.0).core.ring = ap (λ (x : RingPart). x.core.ring) (only_is m d.first.part d.first.parts) ∙ ap (λ (c : Part). c.ring) d.first.core in
     ring_turns q (give_part m.opening (sheet_with w.journal (only m)) w.refused w.failed (only m)) (record o { refused = kept; ended = over; home = home_of q }) r pass id slots (w.gave.opening ∙ d.first.opening) w.gave.parts ring refl refl
-    (record { passed = own.passed; distinct = own.distinct; told = own.told; taken = own.taken; ended_is = λ x. end_refused m o w.journal e own w.why (sym b ∙ x); refused_is = a ∙ answer_here m q.me.0 o e own w; faulty_is = λ x. fault_refused m q.me.0 o e own w (ap is_usable (sym a) ∙ x) })
+    (record { passed = own.passed; distinct = own.distinct; told = own.told; taken = own.taken; ended_is = λ x. end_refused m o w.journal e own w.why (sym b ∙ x); refused_is = a ∙ answer_here m q.me.0 o e own w; faulty_is = λ x. fault_refused m q.me.0 o e own w (ap is_usable (sym a) ∙ x); making = own.making; listed = own.listed })
     (λ lone f. ap is_usable a ∙ fault_alone m q.me.0 o e usable (λ f'. r.alone_is lone (d.first.failed_was (ap (λ (x : RingPart). x.failed) (sym (only_is m d.first.part d.first.parts)) ∙ f'))) w (ap (λ (x : CoreOpening). x.rings) d.first.opening ∙ lone) f)
 
 pub room_some : (v u : View) (many k : ℕ) (e : TurnStop) (last : Option Cref) (ws ws' : List Waiting) (room room' : ℕ) → DeletedSome v u many k e → ws' ≡ drop k ws → room' ≡ room → HasRoom (only v) v.opening.rings last ws room → HasRoom (only u) u.opening.rings last ws' room'

@@ -47,6 +47,7 @@ use Rattle.ring_pass.proofs.RingPorts.{held_here, there_here, nothing_here, lits
 use Rattle.ring_pass.proofs.Stays.{only_is}
 use Rattle.ring_pass.proofs.TurnsHere.{mine_last, ticket_as, ring_turns, room_turns, units_turns}
 use Rattle.ring_pass.specs.Refusals.{answer_noted}
+use Rattle.ring_pass.proofs.AllListed.{long_none, listed_last}
 
 -- Lists
 
@@ -165,8 +166,8 @@ added_as {v} {w} o s home lits glue c kind last view own long f hm lm = subst (�
 
 -- For a ring with its pass
 
-pub ring_adds : {B : Type 0} {t : Shared B} {p : Seat (Option B) View} {n : ℕ} {st : List Cref} {o : Own} (q : Seat (Option B) View) (kind : Kind) (lits : List Literal) (glue a : ℕ) (last : Option Cref) → IsRingPass t p n st o → IsPassOf t q → q.id ≡ p.id → q.me.1 ≡ [] → Added p.me.0 q.me.0 kind lits glue a → IsRingPass t q n st (record o { last = last; home = home_of q })
-ring_adds {B} {t} {p} {n} {st} {o} q kind lits glue a last r pass id slots f =
+pub ring_adds : {B : Type 0} {t : Shared B} {p : Seat (Option B) View} {n : ℕ} {st : List Cref} {o : Own} (q : Seat (Option B) View) (kind : Kind) (lits : List Literal) (glue a : ℕ) (last : Option Cref) → IsRingPass t p n st o → IsPassOf t q → q.id ≡ p.id → q.me.1 ≡ [] → Added p.me.0 q.me.0 kind lits glue a → IsLong lits → IsRingPass t q n st (record o { last = last; home = home_of q })
+ring_adds {B} {t} {p} {n} {st} {o} q kind lits glue a last r pass id slots f long =
     let h : ClauseAt = clause_with a f.number lits in
     ring_turns q f.part (record o { last = last; home = home_of q }) r pass id slots f.opening f.parts (ap (λ (k : Part). k.ring) f.core) f.turn refl (record {
       passed = r.own.passed;
@@ -177,6 +178,8 @@ ring_adds {B} {t} {p} {n} {st} {o} q kind lits glue a last r pass id slots f =
       ended_is = λ e. f.ended_is (r.own.ended_is e);
       refused_is = r.own.refused_is ∙ ap (option_map answer_noted) (sym f.refused);
       faulty_is = λ e. f.failed_is (r.own.faulty_is e);
+      making = f.built r.own.making;
+      listed = listed_last (only p.me.0) f.part (placed_line f.place (only p.me.0).core.ring f.number lits kind) (ap (λ (k : Part). k.wrote) f.core) (ap (λ (k : Part). k.seen) f.core) (long_none lits long) r.own.listed;
     })
     (λ _ e. absurd (true≢false (sym e ∙ f.whole)))
 

@@ -76,6 +76,8 @@ ring_drew {B} {t} {p} {n} {st} {o} q found r pass same is =
       ended_is = r.own.ended_is;
       refused_is = r.own.refused_is;
       faulty_is = r.own.faulty_is;
+      making = r.own.making;
+      listed = r.own.listed;
     })
     r.alone_is
 

@@ -83,6 +83,8 @@ own_drops p o a n last home has apart own =
       ended_is = own.ended_is;
       refused_is = own.refused_is;
       faulty_is = own.faulty_is;
+      making = own.making;
+      listed = own.listed;
     }
 
 -- what was not taken is not among what was

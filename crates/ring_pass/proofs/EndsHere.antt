@@ -36,6 +36,7 @@ use Rattle.ring_pass.proofs.TurnsHere.{mine_last, port_going, ring_turns, room_t
 use Rattle.ring_pass.proofs.Units.{filter_In}
 use Rattle.ring_pass.specs.Refusals.{answer_noted}
 use Rattle.std.specs.Option.{option_map}
+use Rattle.ring_pass.proofs.AllListed.{listed_last}
 
 -- What the port may use
 
@@ -97,6 +98,8 @@ ring_ended {B} {t} {p} {n} {st} {o} q r pass id slots h =
       ended_is = λ e. or_right (only p.me.0).ended (ended p.me.0.opening.formula (h.journal ++ empty_entry p.me.0 h.journal ∷ [])) (over p.me.0 h.journal);
       refused_is = r.own.refused_is ∙ ap (λ (x : Option Refusal). option_map answer_noted (newer x (only p.me.0).refused)) (sym h.quiet);
       faulty_is = λ e. h.gave.still (r.own.faulty_is e);
+      making = r.own.making;
+      listed = listed_last (only p.me.0) (ended_part p.me.0 h.journal h.refused h.failed) (record { place = length h.journal; entry = empty_entry p.me.0 h.journal }) refl refl (λ l. refl) r.own.listed;
     })
     (λ _ e. absurd (true≢false (sym e ∙ h.whole)))
 

@@ -1,4 +1,5 @@
 mod AddsHere
+mod AllListed
 mod Beginning
 mod BuriesHere
 mod CanOffers

@@ -13,7 +13,7 @@ use Rattle.share_core.specs.declared.stored.ClauseAt.{ClauseAt}
 use Rattle.share_core.specs.declared.stored.Cell.{Cell}
 use Rattle.share_core.specs.declared.part.Part.{Part}
 use Rattle.share_core.specs.Learning.{ticket_after}
-use Rattle.share_core.specs.State.{times_at, count_at, maker_at}
+use Rattle.share_core.specs.State.{times_at, count_at, maker_at, without_at}
 use Rattle.share_core.specs.Sound.{Sound, IsCopy, counted, reach, idle_at}
 use Rattle.share_core.proofs.ClauseLists.{all_in, at_in}
 use Rattle.share_core.proofs.Counting.{none_some, is_made, idle_made}
@@ -146,6 +146,13 @@ module _ (v u : View) (kind : Kind) (lits : List Literal) (glue a number : ℕ) 
     waits : times_at a (only v).core.waiting ≡ 0
     waits = subst (λ (p : RingPart). times_at a p.core.waiting ≡ 0) line_is (built_waits u s line_one clause in_making)
 
+    -- what it built is built
+    built_none : (only v).core.making ≡ [] → last.core.making ≡ []
+    built_none none =
+        ap (λ (k : ClauseAt). without_at k.address part.core.making) making_same
+        ∙ ap (λ (ks : List ClauseAt). without_at a (ks ++ clause ∷ [])) none
+        ∙ (λ i. if eq-eqb a a refl i then [] else clause ∷ [])
+
     pub line_opened : Added v w kind lits glue a
     line_opened = record {
       number = number;
@@ -172,6 +179,7 @@ module _ (v u : View) (kind : Kind) (lits : List Literal) (glue a number : ℕ) 
       ended_is = λ e. or_left (only v).ended (ended v.opening.formula (h.wrote.journal ++ entry_of v.opening (only v).core.ring h.wrote.journal (only v).core (Clause kind lits glue a) ∷ [])) e;
       failed_is = h.wrote.gave.still;
       whole = h.wrote.whole;
+      built = λ none. built_none none;
       not_held = free;
       not_waiting = waits;
       held_apart = All_from_In (λ (k : ClauseAt). k.number ≢ number) (only v).core.held (λ k i.

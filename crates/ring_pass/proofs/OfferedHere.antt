@@ -39,7 +39,7 @@ use Rattle.ring_port.specs.PortState.{Holding, Offer, PortState, held_at}
 use Rattle.ring_pass.specs.declared.spares.Spares.{Spares}
 use Rattle.ring_pass.specs.declared.waiting.Waiting.{Waiting}
 use Rattle.ring_pass.specs.Offering.{others, puts_for, CanTakeBack, PutFor}
-use Rattle.ring_pass.specs.RingState.{Own, port_with, port_of, home_of, holding_of, offer_of, IsOwn, IsRingPass, AreShort, HasRoom, AreNext, CanOffer, pending}
+use Rattle.ring_pass.specs.RingState.{Own, port_with, port_of, home_of, holding_of, offer_of, IsOwn, IsRingPass, AreShort, HasRoom, AreNext, CanOffer, pending, HasListed}
 use Rattle.ring_pass.proofs.NextPlaces.{offers_at, map_puts, offers_same, next_offered}
 use Rattle.ring_pass.proofs.OtherRings.{others_fewer}
 use Rattle.ring_pass.proofs.PollsHere.{map_same}
@@ -115,6 +115,8 @@ module _ (v w : View) (o : Own) (home : List ℕ) (class place a : ℕ) (tos : L
         ended_is = λ e. ap (λ (y : RingPart). y.ended) f.part.part ∙ own.ended_is e;
         refused_is = own.refused_is ∙ ap (λ (y : RingPart). option_map answer_noted y.refused) (sym f.part.part);
         faulty_is = λ e. ap (λ (y : RingPart). y.failed) f.part.part ∙ own.faulty_is e;
+        making = ap (λ (y : RingPart). y.core.making) f.part.part ∙ own.making;
+        listed = subst HasListed (sym f.part.part) own.listed;
       }
 
 -- The class

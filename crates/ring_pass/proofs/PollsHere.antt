@@ -108,7 +108,7 @@ taken_after None cs = cs
 taken_after (Some c) cs = cs ++ c ∷ []
 
 own_with : (from class place : ℕ) (h : ClauseAt) (g : ℕ) (r : Option Cref) (p : RingPart) (o : Own) (k : ℕ) (home : List ℕ) → IsFound h.address r → IsOwn p o → IsOwn (after_part from class place h g r p) (record o { polled = k; taken = taken_after r o.taken; home = home })
-own_with from class place h g None p o k home f own = record { passed = own.passed; distinct = own.distinct; told = own.told; taken = own.taken; ended_is = own.ended_is; refused_is = own.refused_is; faulty_is = own.faulty_is }
+own_with from class place h g None p o k home f own = record { passed = own.passed; distinct = own.distinct; told = own.told; taken = own.taken; ended_is = own.ended_is; refused_is = own.refused_is; faulty_is = own.faulty_is; making = own.making; listed = own.listed }
 own_with from class place h g (Some c) p o k home f own =
     let more : (a : ℕ) → times_at a (p.core.held ++ h ∷ []) ≡ times_at a p.core.held + times_at a (h ∷ []) = λ a. at_both a p.core.held (h ∷ []) in
     record {
@@ -121,6 +121,8 @@ own_with from class place h g (Some c) p o k home f own =
       ended_is = own.ended_is;
       refused_is = own.refused_is;
       faulty_is = own.faulty_is;
+      making = own.making;
+      listed = own.listed;
     }
 
 pub own_after : (from class place : ℕ) (h : ClauseAt) (g : ℕ) (r : Option Cref) (p : RingPart) (o : Own) (k : ℕ) (ts : List Cref) (home : List ℕ) → IsFound h.address r → IsOwn p o → ts ≡ taken_after r o.taken → IsOwn (after_part from class place h g r p) (record o { polled = k; taken = ts; home = home })

@@ -36,6 +36,7 @@ use Rattle.ring_pass.proofs.RingPorts.{part_of, seen_listed, unit_on}
 use Rattle.ring_pass.proofs.Stays.{only_is, one_is, one_changed, ring_changes, name_stays}
 use Rattle.ring_pass.proofs.TurnsHere.{room_turns}
 use Rattle.ring_pass.proofs.Units.{filter_In, In_filter}
+use Rattle.ring_pass.proofs.AllListed.{listed_sees}
 
 -- Truth values
 
@@ -337,7 +338,7 @@ gives_kept v s o x one own lt e =
     }
 
 pub own_given : (p : RingPart) (o : Own) → o.passed < length o.arrived → IsOwn p o → IsOwn p (record o { passed = o.passed + 1 })
-own_given p o lt own = record { passed = omega arith; distinct = own.distinct; told = own.told; taken = own.taken; ended_is = own.ended_is; refused_is = own.refused_is; faulty_is = own.faulty_is }
+own_given p o lt own = record { passed = omega arith; distinct = own.distinct; told = own.told; taken = own.taken; ended_is = own.ended_is; refused_is = own.refused_is; faulty_is = own.faulty_is; making = own.making; listed = own.listed }
 
 -- a unit that was just seen is given
 pub gives_new : (v w : View) (s : Seen w) (o : Own) (x : Literal) (n : ℕ) (home : List ℕ) → v.parts ≡ only v ∷ [] → w ≡ after_see x (after_count n v) → IsOwn (only v) o → o.passed ≡ length o.arrived → home ≡ o.home → (only w).caught_up ≡ (only v).caught_up
@@ -376,6 +377,8 @@ own_new v w s o x n passed home one is le own =
       ended_is = own.ended_is;
       refused_is = own.refused_is;
       faulty_is = own.faulty_is;
+      making = own.making;
+      listed = listed_sees (only v) (saw_part x n (only v)) refl (λ l e. list_any-append (same l) (only v).core.seen (x ∷ []) ∙ or_left (has (only v).core.seen l) (has (x ∷ []) l) e) own.listed;
     }
 
 -- none is left
@@ -437,7 +440,7 @@ all_parts v w n one is = one_changed (count_part n) v w one (ap (λ (u : View). 
 pub ring_sees_all : {B : Type 0} {t : Shared B} {p : Seat (Option B) View} {n : ℕ} {st : List Cref} {o : Own} (q : Seat (Option B) View) (count : ℕ) (seen seen' more : List Literal) → IsRingPass t p n st o → IsPassOf t q → IsSamePass p q → SawAll p.me.0 q.me.0 count seen seen' o.arrived more → IsRingPass t q n st (record o { arrived = more; home = home_of q })
 ring_sees_all {B} {t} {p} {n} {st} {o} q count seen seen' more r pass same saw =
     ring_changes q (count_part count (only p.me.0)) (record o { arrived = more; home = home_of q }) r pass same (ap (λ (u : View). u.opening) saw.view) (all_parts p.me.0 q.me.0 count r.one saw.view) refl refl refl
-    (subst (λ (ls : List Literal). IsOwn (count_part count (only p.me.0)) (record o { arrived = ls; home = home_of q })) (sym saw.arrived_is) (record { passed = r.own.passed; distinct = r.own.distinct; told = r.own.told; taken = r.own.taken; ended_is = r.own.ended_is; refused_is = r.own.refused_is; faulty_is = r.own.faulty_is })) r.alone_is
+    (subst (λ (ls : List Literal). IsOwn (count_part count (only p.me.0)) (record o { arrived = ls; home = home_of q })) (sym saw.arrived_is) (record { passed = r.own.passed; distinct = r.own.distinct; told = r.own.told; taken = r.own.taken; ended_is = r.own.ended_is; refused_is = r.own.refused_is; faulty_is = r.own.faulty_is; making = r.own.making; listed = r.own.listed })) r.alone_is
 
 pub port_sees_all : {B : Type 0} {t : Shared B} {p : Seat (Option B) View} {n : ℕ} {st : List Cref} {o : Own} (q : Seat (Option B) View) (s : PortState) (count : ℕ) (seen seen' more : List Literal) → IsRingPass t p n st o → IsPassOf t q → port_of p.me.0 o ≡ s → SawAll p.me.0 q.me.0 count seen seen' o.arrived more → o.passed ≡ length o.arrived
     → TookNone s (port_of q.me.0 (record o { arrived = more; home = home_of q }))

@@ -25,7 +25,7 @@ use Rattle.ring_port.specs.PortState.{PortState, IsPort, held_at, lits_at, head_
 use Rattle.ring_pass.specs.declared.waiting.Waiting.{Waiting}
 use Rattle.ring_pass.specs.Looks.{OnlyLooked}
 use Rattle.ring_pass.specs.Refusals.{answer_noted}
-use Rattle.ring_pass.specs.RingState.{Own, port_with, port_of, home_of, IsOwn, AreWaiting, IsRingPass, HasRoom, HasUnits, pending}
+use Rattle.ring_pass.specs.RingState.{Own, port_with, port_of, home_of, IsOwn, AreWaiting, IsRingPass, HasRoom, HasUnits, pending, HasListed}
 use Rattle.ring_pass.proofs.RingPorts.{is_port, held_here, lits_here, head_here, home_same}
 
 -- Looks
@@ -53,7 +53,7 @@ holding_same v w a k h = (one_same v w k h.0, subst (λ (p : RingPart). 0 < time
 
 -- under another name
 renamed : (p : RingPart) (o : Own) (home : List ℕ) → IsOwn p o → IsOwn p (record o { home = home })
-renamed p o home own = record { passed = own.passed; distinct = own.distinct; told = own.told; taken = own.taken; ended_is = own.ended_is; refused_is = own.refused_is; faulty_is = own.faulty_is }
+renamed p o home own = record { passed = own.passed; distinct = own.distinct; told = own.told; taken = own.taken; ended_is = own.ended_is; refused_is = own.refused_is; faulty_is = own.faulty_is; making = own.making; listed = own.listed }
 
 -- the pass is the ring's still
 pub ring_stays : {B : Type 0} {t : Shared B} {p : Seat (Option B) View} {n : ℕ} {st : List Cref} {o : Own} (q : Seat (Option B) View) → IsRingPass t p n st o → IsPassOf t q → IsSamePass p q → OnlyLooked p.me.0 q.me.0 → IsRingPass t q n st (record o { home = home_of q })
@@ -148,6 +148,8 @@ own_stays p x o home e end fail refused own = record {
   ended_is = λ q. end ∙ own.ended_is q;
   refused_is = own.refused_is ∙ ap (option_map answer_noted) (sym refused);
   faulty_is = λ q. fail ∙ own.faulty_is q;
+  making = ap (λ (k : Part). k.making) e ∙ own.making;
+  listed = subst (λ (k : Part). HasListed (record p { core = k })) (sym e) own.listed;
 }
 
 pub room_steps : (p x : RingPart) (w : View) (rings rings' : ℕ) (last : Option Cref) (ws : List Waiting) (room : ℕ) → w.parts ≡ x ∷ [] → x.core ≡ p.core → rings' ≡ rings → HasRoom p rings last ws room → HasRoom (only w) rings' last ws room

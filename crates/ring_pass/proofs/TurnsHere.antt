@@ -56,6 +56,7 @@ use Rattle.ring_pass.specs.RingState.{Own, port_with, port_of, home_of, IsOwn, I
 use Rattle.ring_pass.proofs.PollsHere.{port_step}
 use Rattle.ring_pass.proofs.RingPorts.{part_of, rings_here}
 use Rattle.ring_pass.proofs.Stays.{only_is, one_is, ring_changes, units_keep}
+use Rattle.ring_pass.proofs.AllListed.{listed_last}
 
 -- The turn is taken
 
@@ -292,7 +293,7 @@ pub ring_refused : {B : Type 0} {t : Shared B} {p : Seat (Option B) View} {n : �
     → IsRingPass t q n st (record o { refused = kept; ended = over; home = home_of q })
 ring_refused {B} {t} {p} {n} {st} {o} q e kept over r usable pass id slots h a b =
     ring_turns q (give_part p.me.0.opening (sheet_with h.journal (only p.me.0)) h.refused h.failed (only p.me.0)) (record o { refused = kept; ended = over; home = home_of q }) r pass id slots h.gave.opening h.gave.parts refl refl refl
-    (record { passed = r.own.passed; distinct = r.own.distinct; told = r.own.told; taken = r.own.taken; ended_is = λ k. end_refused p.me.0 o h.journal e r.own h.why (sym b ∙ k); refused_is = a ∙ answer_here p.me.0 q.me.0 o e r.own h; faulty_is = λ k. fault_refused p.me.0 q.me.0 o e r.own h (ap is_usable (sym a) ∙ k) })
+    (record { passed = r.own.passed; distinct = r.own.distinct; told = r.own.told; taken = r.own.taken; ended_is = λ k. end_refused p.me.0 o h.journal e r.own h.why (sym b ∙ k); refused_is = a ∙ answer_here p.me.0 q.me.0 o e r.own h; faulty_is = λ k. fault_refused p.me.0 q.me.0 o e r.own h (ap is_usable (sym a) ∙ k); making = r.own.making; listed = r.own.listed })
     (λ lone f. ap is_usable a ∙ fault_alone p.me.0 q.me.0 o e usable (r.alone_is lone) h lone f)
 
 pub room_refused : (v u : View) (e : TurnStop) (last : Option Cref) (ws : List Waiting) (room : ℕ) → WroteNone v u e → HasRoom (only v) v.opening.rings last ws room → HasRoom (only u) u.opening.rings last ws room
@@ -418,6 +419,8 @@ ring_reduced {B} {t} {p} {n} {st} {o} q ts r pass id slots h none =
       ended_is = λ e. or_left (only p.me.0).ended (ended p.me.0.opening.formula (h.journal ++ ReduceEntry (only p.me.0).core.ring ∷ [])) (r.own.ended_is e);
       refused_is = r.own.refused_is ∙ ap (λ (x : Option Refusal). option_map answer_noted (newer x (only p.me.0).refused)) (sym h.quiet);
       faulty_is = λ e. h.gave.still (r.own.faulty_is e);
+      making = r.own.making;
+      listed = listed_last (only p.me.0) (reduced_part p.me.0 h.journal h.refused h.failed) (record { place = length h.journal; entry = ReduceEntry (only p.me.0).core.ring }) refl refl (λ l. refl) r.own.listed;
     })
     (λ _ e. absurd (true≢false (sym e ∙ h.whole)))
 

@@ -47,6 +47,7 @@ use Rattle.ring_pass.proofs.Stays.{only_is, one_is}
 use Rattle.ring_pass.proofs.TurnsHere.{mine_last, ticket_as, port_going, ring_turns, room_turns, units_turns}
 use Rattle.ring_pass.proofs.Units.{filter_In, In_filter, head_else}
 use Rattle.ring_pass.specs.Refusals.{answer_noted}
+use Rattle.ring_pass.proofs.AllListed.{listed_unit}
 
 -- The line
 
@@ -204,6 +205,17 @@ pub learned_as : {v w u : View} {lit : Literal} {arrived' last : List Literal} (
     → WroteUnit s (port_of u (record o { arrived = last; last = None; home = home })) lit Learn None
 learned_as {v} {w} {u} {lit} {arrived'} {last} o s home view own h l out hm = subst (λ (y : PortState). WroteUnit y (port_of u (record o { arrived = last; last = None; home = home })) lit Learn None) view (unit_put o home None own h l out hm)
 
+-- what was seen before is seen still
+unit_sees : {v w u : View} {kind : Kind} {lit : Literal} {arrived arrived' : List Literal} (h : Wrote v w (UnitNote kind lit)) (l : Listed w u arrived arrived' lit) (k : Literal) → has (only v).core.seen k ≡ true → has l.part.core.seen k ≡ true
+unit_sees {v} {w} {u} {kind} {lit} {arrived} {arrived'} h l k e =
+    l.sees k
+    ∙ or_left (has ((only w).core.seen ++ l.news) k) (same lit k) (list_any-append (same k) (only w).core.seen l.news ∙ or_left (has (only w).core.seen k) (has l.news k) (ap (λ (p : RingPart). has p.core.seen k) (line_is h) ∙ e))
+
+-- and so is the unit
+unit_seen : {v w u : View} {kind : Kind} {lit : Literal} {arrived arrived' : List Literal} (h : Wrote v w (UnitNote kind lit)) (l : Listed w u arrived arrived' lit) → has l.part.core.seen lit ≡ true
+unit_seen {v} {w} {u} {kind} {lit} {arrived} {arrived'} h l =
+    l.sees lit ∙ or_right (has ((only w).core.seen ++ l.news) lit) (same lit lit) (same-refl lit)
+
 pub ring_unit : {B : Type 0} {t : Shared B} {p : Seat (Option B) View} {n : ℕ} {st : List Cref} {o : Own} {w : View} {kind : Kind} {lit : Literal} {arrived' last : List Literal} (q : Seat (Option B) View) (cell : Option Cref) → IsRingPass t p n st o → IsPassOf t q → q.id ≡ p.id → q.me.1 ≡ [] → Wrote p.me.0 w (UnitNote kind lit) → Listed w q.me.0 o.arrived arrived' lit → LeftOut o.passed lit arrived' last
     → IsRingPass t q n st (record o { arrived = last; last = cell; home = home_of q })
 ring_unit {B} {t} {p} {n} {st} {o} {w} {kind} {lit} {arrived'} {last} q cell r pass id slots h l out =
@@ -218,6 +230,8 @@ ring_unit {B} {t} {p} {n} {st} {o} {w} {kind} {lit} {arrived'} {last} q cell r p
       ended_is = λ e. l.ended_is (ap (λ (x : RingPart). x.ended) is ∙ or_left (only p.me.0).ended (ended p.me.0.opening.formula (h.journal ++ unit_entry p.me.0 h.journal kind lit ∷ [])) (r.own.ended_is e));
       refused_is = r.own.refused_is ∙ ap (option_map answer_noted) (sym (l.refused ∙ ap (λ (x : RingPart). x.refused) is ∙ ap (λ (x : Option Refusal). newer x (only p.me.0).refused) h.quiet));
       faulty_is = λ e. l.failed_is (ap (λ (x : RingPart). x.failed) is ∙ h.gave.still (r.own.faulty_is e));
+      making = ap (λ (c : Part). c.making) core ∙ ap (λ (x : RingPart). x.core.making) is ∙ r.own.making;
+      listed = listed_unit (only p.me.0) l.part (record { place = length h.journal; entry = unit_entry p.me.0 h.journal kind lit }) lit (ap (λ (c : Part). c.wrote) core ∙ ap (λ (x : RingPart). x.core.wrote) is) refl (unit_sees h l) (unit_seen h l) r.own.listed;
     })
     (λ lone e. absurd (true≢false (sym (l.alone (ap (λ (x : CoreOpening). x.rings) h.gave.opening ∙ lone) e) ∙ ap (λ (x : RingPart). x.failed) is ∙ h.whole)))
 

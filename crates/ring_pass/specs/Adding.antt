@@ -19,8 +19,8 @@ clause_with address number lits = record { address = address; number = number; l
 abbrev pub placed_line : (place ring number : ℕ) → List Literal → Kind → Placed
 placed_line place ring number lits kind = record { place = place; entry = Add (record { ring = ring; number = number; lits = lits; kind = kind }) }
 
--- the ring holds a clause that it added, at an address at which nothing stood that it knows, under a number of its own; if it was
--- learned the ticket is used up; no write has failed
+-- the ring holds a clause that it added, at an address at which nothing stood that it knows, under a number of its own; it builds
+-- no other cell than before; if it was learned the ticket is used up; no write has failed
 pub record Added (v w : View) (kind : Kind) (lits : List Literal) (glue a : ℕ) : Type 0 where
   pub number : ℕ
   pub place : ℕ
@@ -46,6 +46,7 @@ pub record Added (v w : View) (kind : Kind) (lits : List Literal) (glue a : ℕ)
   pub ended_is : (only v).ended ≡ true → part.ended ≡ true
   pub failed_is : (only v).failed ≡ true → part.failed ≡ true
   pub whole : part.failed ≡ false
+  pub built : (only v).core.making ≡ [] → part.core.making ≡ []
   pub not_held : times_at a (only v).core.held ≡ 0
   pub not_waiting : times_at a (only v).core.waiting ≡ 0
   pub held_apart : All (λ k. k.number ≢ number) (only v).core.held

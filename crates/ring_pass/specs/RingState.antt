@@ -27,6 +27,7 @@ use Rattle.ring_port.specs.Port.{is_usable}
 use Rattle.ring_port.specs.PortState.{Holding, Offer, Slot, PortState}
 use Rattle.ring_pass.specs.declared.spares.Spares.{Spares}
 use Rattle.ring_pass.specs.Refusals.{last_refusal}
+use Rattle.ring_pass.specs.Sights.{wrote_unit}
 use Rattle.ring_pass.specs.declared.waiting.Waiting.{Waiting}
 
 -- What the ring keeps beside its pass
@@ -125,9 +126,13 @@ home_of p = p.me.0.layout.rings ∷ p.me.0.layout.vars ∷ p.me.0.layout.words �
 
 -- What is kept of it
 
+-- each unit that the ring wrote is listed: it has seen it
+abbrev pub HasListed : RingPart → Type 0
+HasListed p = (lit : Literal) → wrote_unit p lit ≡ true → has p.core.seen lit ≡ true
+
 -- what is kept beside the pass is so: no unit arrived twice, each is seen, what was taken is held, the log is ended if the
 -- port says so, the answer that refused last is what the log's turns refused the ring last, and if that is a fault the ring knows
--- that a write of the log has failed
+-- that a write of the log has failed; between its calls the ring builds no cell, and each unit that it wrote is listed
 pub record IsOwn (p : RingPart) (o : Own) : Type 0 where
   pub passed : o.passed ≤ length o.arrived
   pub distinct : distinct_lits o.arrived ≡ true
@@ -136,6 +141,8 @@ pub record IsOwn (p : RingPart) (o : Own) : Type 0 where
   pub ended_is : o.ended ≡ true → p.ended ≡ true
   pub refused_is : o.refused ≡ last_refusal p
   pub faulty_is : is_usable o.refused ≡ false → p.failed ≡ true
+  pub making : p.core.making ≡ []
+  pub listed : HasListed p
 
 -- how many places the offer of what was learned last may take
 abbrev pub pending : ℕ → Option Cref → ℕ

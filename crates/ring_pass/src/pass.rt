@@ -10,7 +10,7 @@ ghost use Rattle.share_rule.specs.Steps.{new_part};
 ghost use Rattle.share_rule.specs.Tight.{IsTight};
 ghost use Rattle.share_rule.specs.Views.{only};
 ghost use Rattle.ring_pass.specs.Refusals.{last_refusal};
-ghost use Rattle.ring_pass.specs.RingState.{Own, port_of, home_of, begun_as};
+ghost use Rattle.ring_pass.specs.RingState.{Own, HasListed, port_of, home_of, begun_as};
 
 use crate::spares::Spares;
 use crate::waiting::Waiting;
@@ -145,6 +145,9 @@ impl<'a, S: Sink, G: Gate, H> RingPass<'a, S, G, H> {
     /// is given back. So except for want of memory the last refusal is one that a turn made, though a body may repeat it, or ask
     /// a broken log again after its own write failed. If it was for want of room, the table had none. A lone ring was told of a
     /// failed write exactly if the port was refused for a fault.
+    ///
+    /// However its calls ended, the ring has no cell under construction, and each unit that its entries add is listed: a clause
+    /// whose line stands gets its cell in the same call, and a unit whose line stands is listed in the same call.
     pub fn into_pass(self, table: &Shared<Book<S>>, _other: &Pass<Book<S>>) -> Pass<Book<S>>
         requires other { IsPassOf table.now _other.now }
         requires home { self.home ≡ home_of _other.now }
@@ -156,6 +159,8 @@ impl<'a, S: Sink, G: Gate, H> RingPass<'a, S, G, H> {
         ensures room { (s : Seen result.me.0) (lack : NoRoom) → self.entry.refused ≡ Some (NoHole lack) → IsTight result.me.0.layout s.core.opening s.core.journal lack.need lack.largest }
         ensures faulty { is_usable self.entry.refused ≡ false → (only result.me.0).failed ≡ true }
         ensures alone { result.me.0.opening.rings ≡ 1 → (only result.me.0).failed ≡ true → is_usable self.entry.refused ≡ false }
+        ensures built { (only result.me.0).core.making ≡ [] }
+        ensures listed { HasListed (only result.me.0) }
     {
         let RingPass { pass, .. } = self;
         pass

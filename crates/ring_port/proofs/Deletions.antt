@@ -13,7 +13,7 @@ use Rattle.rup_model.specs.declared.journal.Entry.{Entry}
 use Rattle.rup_model.specs.declared.journal.Entry.TheVariants.{Del}
 use Rattle.rup_model.specs.Log.{Accepted}
 use Rattle.rup_model.specs.Opening.{IsLong}
-use Rattle.rup_model.specs.Journal.{Book, book_after, book, lines, lines_after, added, ring_of, LogSound}
+use Rattle.rup_model.specs.Journal.{spelled_by, Book, book_after, book, lines, lines_after, added, ring_of, LogSound}
 use Rattle.rup_model.proofs.Lists.{In_Contains, Contains_In, In_get_or}
 use Rattle.rup_model.proofs.Sums.{put_else}
 use Rattle.rup_model.proofs.Units.{long_two}
@@ -27,7 +27,7 @@ use Rattle.ring_port.specs.PortState.{Holding, PortState, IsOn}
 use Rattle.ring_port.specs.Log.{Origin, Keeps, StandsOver, HasLines, journal_of}
 use Rattle.ring_port.proofs.LogSteps.{one_All, output_of, caused_later, caused_same}
 
-module _ (o : Origin) (s : PortState) (h : StandsOver o s) (w : Holding) (rest : List Holding) (first : s.waiting ≡ w ∷ rest) (long : IsLong w.lits) (going : s.ended ≡ false) where
+module _ (o : Origin) (s : PortState) (h : StandsOver o s) (ring : s.ring ≡ 0) (w : Holding) (rest : List Holding) (first : s.waiting ≡ w ∷ rest) (long : IsLong w.lits) (going : s.ended ≡ false) where
   abbrev F : List (List Literal)
   F = o.formula
 
@@ -53,7 +53,7 @@ module _ (o : Origin) (s : PortState) (h : StandsOver o s) (w : Holding) (rest :
   sound_last = log_dels F J h.sound s.ring w.number w.lits alive (long_two w.lits long) (not_added F J (sym h.ended ∙ going))
 
   line_is : lines_after (book F J) deletes ≡ DelLine w.lits ∷ []
-  line_is = ap (λ q. DelLine (unwrap_or q []) ∷ []) alive
+  line_is = λ i. DelLine (spelled_by (ring i) (unwrap_or (alive i) [])) ∷ []
 
   lines_more : lines F (J ++ deletes ∷ []) ≡ lines F J ++ DelLine w.lits ∷ []
   lines_more = lines_last F J deletes ∙ ap (λ L. lines F J ++ L) line_is

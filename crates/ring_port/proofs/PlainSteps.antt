@@ -294,7 +294,7 @@ module _ (p : PlainData) (plain : IsPlain p) (x : Holding) (xs : List Holding) (
   pub deletion_keeps : DeletedEntry (record p.log { room = r }) g x.lits x.number → KeepsLog (state_of p) (state_of (record p { waiting = xs; log = g }))
   deletion_keeps did o h =
       subst (λ k. StandsOver o (state_of (record p { waiting = xs; log = k }))) (sym did.state)
-      (stands_deleted o (state_of p) h x xs first kept_x.shape did.going not_held waits_once p.log.output g.output refl (unspent_of o p h usable) did.given did.put)
+      (stands_deleted o (state_of p) h refl x xs first kept_x.shape did.going not_held waits_once p.log.output g.output refl (unspent_of o p h usable) did.given did.put)
 
   pub deletion_did : DeletedEntry (record p.log { room = r }) g x.lits x.number → TidiedUpTo (state_of p) (state_of (record p { waiting = xs; log = g })) 1
   deletion_did did = record {
@@ -311,7 +311,7 @@ module _ (p : PlainData) (plain : IsPlain p) (x : Holding) (xs : List Holding) (
   deletion_refused Broken why o h = absurd why
   deletion_refused ProofFault why o h =
       subst (λ k. StandsOver o (state_of (record p { log = k }))) (sym why.state)
-      (stands_failed o (state_of p) h (DelLine x.lits) (accepted_deletion o (state_of p) h x xs first kept_x.shape why.going) kept_x.on p.log.output g.output refl (unspent_of o p h usable) why.put)
+      (stands_failed o (state_of p) h (DelLine x.lits) (accepted_deletion o (state_of p) h refl x xs first kept_x.shape why.going) kept_x.on p.log.output g.output refl (unspent_of o p h usable) why.put)
   deletion_refused (NoHole lack) why o h =
       subst (λ k. StandsOver o (state_of (record p { log = k }))) (sym why.state)
       (stands_with o (state_of p) h p.log.output refl (take p.passed p.opening ++ p.written) p.given (length p.opening - p.passed) p.stop p.looks (Some (NoHole lack)) p.log.ended

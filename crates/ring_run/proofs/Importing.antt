@@ -14,7 +14,7 @@ use Rattle.rup_model.specs.declared.journal.Kind.{Kind}
 use Rattle.rup_model.specs.declared.journal.Kind.TheVariants.{Ruler, Learn, Derive, UnitLine}
 use Rattle.rup_model.specs.declared.journal.Addition.{Addition}
 use Rattle.rup_model.specs.declared.journal.Entry.{Entry}
-use Rattle.rup_model.specs.declared.journal.Entry.TheVariants.{Add, Del, Reduce}
+use Rattle.rup_model.specs.declared.journal.Entry.TheVariants.{Add, Del, Reduce, Round}
 use Rattle.rup_model.specs.Basics.{EachAfter}
 use Rattle.rup_model.specs.Journal.{additions, added, learned, recent}
 use Rattle.rup_model.specs.Opening.{adds_unit}
@@ -71,6 +71,7 @@ adds_here r (Add y ∷ J) x l (inr later) ring lits = by (y.ring == r) (adds_her
     by false h = h
 adds_here r (Del q n ∷ J) x l (inr later) ring lits = adds_here r J x l later ring lits
 adds_here r (Reduce q ∷ J) x l (inr later) ring lits = adds_here r J x l later ring lits
+adds_here r (Round y ∷ J) x l (inr later) ring lits = adds_here r J x l later ring lits
 
 -- what each entry is after those before it, by what it is
 each_in : (P Q : List Entry → Entry → Type 0) (before es : List Entry) → ((b : List Entry) (e : Entry) → In e es → P b e → Q b e) → EachAfter P before es → EachAfter Q before es
@@ -113,6 +114,7 @@ module _ (s w : PortState) (k : Literal) (took : TookUnit s w k) (seen : AddedSe
       }) (All-nil (IsUntold s.opening w.given s.ring b))))
   still_untold vars b (Del r n) there own p = tt
   still_untold vars b (Reduce r) there own p = tt
+  still_untold vars b (Round x) there own p = tt
 
   took_lines : (vars : ℕ) → All (IsOwn s.ring vars) s.mine → AreNewLines s → AreNewLines w
   took_lines vars own p =

@@ -64,6 +64,7 @@ timely_spaced before (e ∷ J) h = (one e h.0, timely_spaced (before ++ e ∷ []
     one (Add x) k = tt
     one (Rattle.rup_model.specs.declared.journal.Entry.TheVariants.Del r n) k = tt
     one (Reduce r) k = omega (arith, k)
+    one (Rattle.rup_model.specs.declared.journal.Entry.TheVariants.Round x) k = tt
 
 -- Some of the numbers, in their order
 

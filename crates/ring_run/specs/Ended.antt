@@ -6,7 +6,7 @@ use Rattle.sat_words.specs.Clause.{has, is_empty}
 use Rattle.sat_words.specs.Truth.{lit_true, clause_true}
 use Rattle.sat_words.specs.declared.shared.TheConstants.{STOP_SAT, STOP_REFUTED, STOP_ROOM, STOP_PROOF, STOP_MEMORY}
 use Rattle.rup_model.specs.declared.journal.Entry.{Entry}
-use Rattle.rup_model.specs.declared.journal.Entry.TheVariants.{Add, Del, Reduce}
+use Rattle.rup_model.specs.declared.journal.Entry.TheVariants.{Add, Del, Reduce, Round}
 use Rattle.rup_model.specs.declared.journal.Kind.{Kind}
 use Rattle.rup_model.specs.declared.journal.Kind.TheVariants.{Ruler, Learn, Derive, UnitLine}
 use Rattle.rup_model.specs.Basics.{EachAfter}
@@ -77,6 +77,7 @@ abbrev pub IsOwn : (ring vars : ℕ) → Entry → Type 0
 IsOwn ring vars (Add x) = (x.ring ≡ ring) × All (IsOn vars) x.lits × IsOfKind x.kind x.lits
 IsOwn ring vars (Del r n) = r ≡ ring
 IsOwn ring vars (Reduce r) = r ≡ ring
+IsOwn ring vars (Round x) = ⊥
 
 -- what the ring starts from: the start clauses with their numbers, and the units that are listed from the start, without the
 -- ruler's entries, which no clause that is learned is compared with
@@ -97,6 +98,7 @@ abbrev pub is_reduction : ℕ → Entry → Bool
 is_reduction r (Add x) = false
 is_reduction r (Del q n) = false
 is_reduction r (Reduce q) = q == r
+is_reduction r (Round x) = false
 
 -- how many reductions of the ring the entries note
 abbrev pub reductions : ℕ → List Entry → ℕ
@@ -115,6 +117,7 @@ abbrev pub IsTimely : List Entry → Entry → Type 0
 IsTimely before (Add x) = IsDerivedInTime before x.ring x.kind x.lits
 IsTimely before (Del r n) = ⊤
 IsTimely before (Reduce r) = lemmas_before (reductions r before + 1) ≤ length (recent r before)
+IsTimely before (Round x) = ⊤
 
 -- each reduction of the ring comes after this many lemmas, and clauses are made shorter only then
 abbrev pub AreTimely : PortState → Type 0

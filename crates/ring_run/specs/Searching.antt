@@ -5,7 +5,7 @@ use Rattle.sat_words.specs.Literal.{Literal}
 use Rattle.sat_words.specs.Clause.{has, is_empty}
 use Rattle.sat_words.specs.declared.shared.Cref.{Cref}
 use Rattle.rup_model.specs.declared.journal.Entry.{Entry}
-use Rattle.rup_model.specs.declared.journal.Entry.TheVariants.{Add, Del, Reduce}
+use Rattle.rup_model.specs.declared.journal.Entry.TheVariants.{Add, Del, Reduce, Round}
 use Rattle.rup_model.specs.declared.journal.Kind.TheVariants.{UnitLine}
 use Rattle.rup_model.specs.Journal.{added, learned, recent}
 use Rattle.rup_model.specs.Opening.{adds_unit, is_new}
@@ -128,6 +128,7 @@ abbrev pub IsLineOfUnit : ℕ → Entry → Type 0
 IsLineOfUnit r (Add x) = (x.ring ≡ r) × (x.kind ≡ UnitLine) × (length x.lits ≡ 1)
 IsLineOfUnit r (Del q n) = ⊥
 IsLineOfUnit r (Reduce q) = ⊥
+IsLineOfUnit r (Round x) = ⊥
 
 -- lines of units were written, and nothing else was done; the units seen are those seen before and those whose lines were written; if a
 -- line was written, units that others listed meanwhile may be kept, and more looks that found no other listed may be counted

@@ -1,5 +1,5 @@
 -- What is left of a formula: no empty clause, and models that come back.
-use Rattle.std.proofs.Common.{◌≡◌, ◌∙◌, ℕ, zero, suc, ◌+◌, ◌<◌, ◌≤◌, ◌==◌, Bool, true, false, not, ◌&&◌, ◌||◌, cond, List, [], ◌∷◌, ◌++◌, filter, length, Some, None, refl, sym, ap, subst, inl, inr, ⊎_elim, arith, Contains}
+use Rattle.std.proofs.Common.{◌≡◌, ◌∙◌, ℕ, zero, suc, ◌+◌, ◌<◌, ◌≤◌, ◌==◌, Bool, true, false, not, ◌&&◌, ◌||◌, cond, List, [], ◌∷◌, ◌++◌, filter, length, Option, Some, None, refl, sym, ap, subst, inl, inr, ⊎_elim, arith, Contains}
 use Rattle.std.specs.List.{list_any, fold, slice_get}
 use Rattle.std.specs.List.Sorted.{IsPermutation}
 use Rattle.std.specs.Option.{option_map}
@@ -13,17 +13,19 @@ use Rattle.sat_words.proofs.Insertion.{has-clause_of}
 use Rattle.sat_words.proofs.Members.{same-refl, clause_true_alike}
 use Rattle.rup_model.specs.declared.journal.TheConstants.{RULER_RING}
 use Rattle.rup_model.specs.declared.journal.Entry.{Entry}
-use Rattle.rup_model.specs.declared.journal.Entry.TheVariants.{Add, Del, Reduce}
+use Rattle.rup_model.specs.declared.journal.Entry.TheVariants.{Add, Del, Reduce, Round}
 use Rattle.rup_model.specs.Rounds.{falsifies, Rounds}
 use Rattle.rup_model.specs.Rup.{conflicts}
 use Rattle.rup_model.specs.Journal.{Book, formula_book, spelled, book_after, book, added}
 use Rattle.rup_model.proofs.Lists.{In, any_In, In_any, none_In, all_In, In_all, In_map, map_In, In_append, In_append_left, In_append_right, has_In, Contains_In, In_Contains}
 use Rattle.rup_model.proofs.Sums.{at_put}
+use Rattle.rup_model.proofs.Respelling.{respelled_from}
 use Rattle.drat_text.specs.LineState.{LineState}
 use Rattle.simp_base.specs.WorkState.{WorkState, lists, unit_clauses, known, numbered, begun, is_only, is_alive_unit}
 use Rattle.simp_base.specs.Parts.{takes_part}
 use Rattle.simp_base.proofs.Filters.{In_filter}
 use Rattle.simp_base.proofs.Long.{two_if_long}
+use Rattle.simp_base.proofs.Order.{in_book}
 use Rattle.simp_base.proofs.Truths.{true_opposites}
 
 -- Numbers and clauses of a book
@@ -72,6 +74,13 @@ good_step b (Del q k) m low next some good = (
   omega arith,
 )
 good_step b (Reduce q) m low next some good = ((λ n c e. (let t = good n c e in (t.0, (let lt = t.1 in omega arith), t.2))), omega arith)
+good_step b (Round x) m low next some good = (
+  (λ n c e. elim (respelled_from x.starts b.clause n c e) as (λ _. (1 ≤ n) × (n < m + 0) × (is_empty c ≡ false)) [
+    | inl kept ↦ (let t = good n c kept in (t.0, (let lt = t.1 in omega arith), t.2))
+    | inr q ↦ (let t = good n q.1 q.2 in (t.0, (let lt = t.1 in omega arith), subst (λ (d : List Literal). is_empty d ≡ false) q.3 (some_in_order q.1 t.2)))
+  ]),
+  omega arith,
+)
 
 added_apart : (e : Entry) (J : List Entry) → (length (added (e ∷ J)) ≡ length (added (e ∷ [])) + length (added J)) × (list_any is_empty (added (e ∷ J)) ≡ false → (list_any is_empty (added (e ∷ [])) ≡ false) × (list_any is_empty (added J) ≡ false))
 added_apart (Add x) J = (omega arith, λ h. by (is_empty x.lits) h)
@@ -81,6 +90,7 @@ added_apart (Add x) J = (omega arith, λ h. by (is_empty x.lits) h)
     by false h = (refl, h)
 added_apart (Del r n) J = (omega arith, λ h. (refl, h))
 added_apart (Reduce r) J = (omega arith, λ h. (refl, h))
+added_apart (Round x) J = (omega arith, λ h. (refl, h))
 
 good_from : (b : Book) (J : List Entry) (m : ℕ) → 1 ≤ m → b.next ≡ m → list_any is_empty (added J) ≡ false → IsGood b m → IsGood (fold book_after b J) (m + length (added J))
 good_from b [] m low next some good = λ n c e. (let t = good n c e in (t.0, (let lt = t.1 in omega arith), t.2))
@@ -91,6 +101,10 @@ good_from b (e ∷ J) m low next some good =
     let length_is : m + length (added (e ∷ [])) + length (added J) ≡ m + length (added (e ∷ J)) = (let h = apart.0 in omega arith) in
     subst (IsGood (fold book_after (book_after b e) J)) length_is
     (good_from (book_after b e) J (m + length (added (e ∷ []))) (omega arith) one.1 parts.1 one.0)
+
+-- a clause of the book, once its literals are in order
+pub held_some : (q : Option (List Literal)) (c : List Literal) → option_map clause_of q ≡ Some c → ((d : List Literal) → q ≡ Some d → is_empty d ≡ false) → is_empty c ≡ false
+held_some q c e some = let t = in_book q c e in subst (λ (x : List Literal). is_empty x ≡ false) t.2 (some_in_order t.0 (some t.0 t.1))
 
 pub good : (F : List (List Literal)) (J : List Entry) → list_any is_empty F ≡ false → list_any is_empty (added J) ≡ false
     → (n : ℕ) (c : List Literal) → (book F J).clause n ≡ Some c → (1 ≤ n) × (n < suc (length F) + length (added J)) × (is_empty c ≡ false)

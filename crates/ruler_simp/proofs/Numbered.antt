@@ -2,12 +2,13 @@
 use Rattle.std.proofs.Common.{◌≡◌, ◌≢◌, ◌∙◌, ℕ, zero, suc, ◌+◌, ◌<◌, ◌≤◌, ◌==◌, Bool, true, false, cond, List, [], ◌∷◌, ◌++◌, map, filter, length, get_or, Option, Some, None, refl, sym, ap, subst, inl, inr, arith, Contains, eq-eqb, ne_eqb}
 use Rattle.std.specs.List.{filter_map, cons_option, range_with_len, sum_by}
 use Rattle.std.specs.List.Sorted.{IsPermutation, IsNonDecreasingBy}
-use Rattle.std.specs.Option.{option_and_then}
+use Rattle.std.specs.Option.{option_and_then, option_map}
 use Rattle.std.proofs.lemmas.Bool.{true≢false}
 use Rattle.std.proofs.lemmas.List.Sums.{sum_by-append}
 use Rattle.std.proofs.lemmas.Bool.Decides.{nat_tests}
 use Rattle.std.proofs.lemmas.List.Sorted.{IsPermutation-sym, Contains-permutation, sum_by-IsPermutation}
 use Rattle.sat_words.specs.Literal.{Literal}
+use Rattle.sat_words.specs.Clause.{clause_of}
 use Rattle.rup_model.specs.Basics.{one_if}
 use Rattle.rup_model.specs.Journal.{Book}
 use Rattle.rup_model.specs.Opening.{Start, start_at}
@@ -15,6 +16,7 @@ use Rattle.rup_model.proofs.Lists.{In, Contains_In, In_Contains}
 use Rattle.simp_base.specs.WorkState.{HaveOwnNumbers}
 use Rattle.simp_base.specs.Parts.{takes_part}
 use Rattle.simp_base.proofs.Filters.{In_filter, filter_In}
+use Rattle.simp_base.proofs.Order.{in_book, part_in_order}
 use Rattle.ruler_simp.specs.Left.{start_of}
 
 abbrev pub Cell : Type 0
@@ -85,7 +87,7 @@ rising a (x ∷ y ∷ xs) up once low =
 -- Start clauses
 
 abbrev take_start : ℕ → List Literal → Option Start
-take_start n c = cond (takes_part c) (Some (record { number = n; lits = c })) None
+take_start n c = cond (takes_part c) (Some (record { number = n; lits = clause_of c })) None
 
 -- none has the first number
 raise : (a : ℕ) (xs : List Cell) → Rising a xs → ((c : List Literal) → In (a, c) xs → ⊥) → Rising (a + 1) xs
@@ -101,13 +103,13 @@ past a [] n c r i = absurd i
 past a (x ∷ xs) n c r (inl e) = let le = r.0 in let q : x.0 ≡ n = ap (λ (y : Cell). y.0) e in omega arith
 past a (x ∷ xs) n c r (inr i) = let le = past (suc x.0) xs n c r.1 i in let lo = r.0 in omega arith
 
--- the cells are clauses of the book that take part, with numbers below this one
+-- the cells are clauses of the book that take part, each in order, with numbers below this one
 abbrev Held : Book → ℕ → List Cell → Type 0
-Held b m xs = (n : ℕ) (c : List Literal) → In (n, c) xs → (b.clause n ≡ Some c) × (takes_part c ≡ true) × (n < m)
+Held b m xs = (n : ℕ) (c : List Literal) → In (n, c) xs → (option_map clause_of (b.clause n) ≡ Some c) × (takes_part c ≡ true) × (n < m)
 
 -- all of them from this number on
 abbrev Whole : Book → ℕ → List Cell → Type 0
-Whole b a xs = (n : ℕ) (c : List Literal) → a ≤ n → b.clause n ≡ Some c → takes_part c ≡ true → In (n, c) xs
+Whole b a xs = (n : ℕ) (c : List Literal) → a ≤ n → b.clause n ≡ Some c → takes_part c ≡ true → In (n, clause_of c) xs
 
 abbrev Are : Book → ℕ → ℕ → List Cell → Type 0
 Are b a k xs = map start_of xs ≡ filter_map (start_at b) (range_with_len a k)
@@ -119,29 +121,33 @@ module _ (b : Book) (a k : ℕ) (rec : (ys : List Cell) → Rising (a + 1) ys �
   none_here : ((c : List Literal) → In (a, c) xs → ⊥) → Are b (a + 1) k xs
   none_here none = rec xs (raise a xs r none) (λ n c i. (let h = f n c i in (h.0, h.1, bound n h.2))) (λ n c le. g n c (omega arith))
 
-  one_here : (c : List Literal) → b.clause a ≡ Some c → takes_part c ≡ true → (ys : List Cell) → Rising a ys → In (a, c) ys → Held b (a + suc k) ys → Whole b a ys
+  one_here : (c : List Literal) → (ys : List Cell) → Rising a ys → In (a, c) ys → Held b (a + suc k) ys → Whole b a ys
       → map start_of ys ≡ record { number = a; lits = c } ∷ filter_map (start_at b) (range_with_len (a + 1) k)
-  one_here c is part [] s i held whole = absurd i
-  one_here c is part (y ∷ ys) s (inr i) held whole = let le = past (suc y.0) ys a c s.1 i in let lo = s.0 in absurd (omega arith)
-  one_here c is part (y ∷ ys) s (inl e) held whole =
+  one_here c [] s i held whole = absurd i
+  one_here c (y ∷ ys) s (inr i) held whole = let le = past (suc y.0) ys a c s.1 i in let lo = s.0 in absurd (omega arith)
+  one_here c (y ∷ ys) s (inl e) held whole =
       let first : y.0 ≡ a = ap (λ (z : Cell). z.0) e in
       let up : suc y.0 ≡ a + 1 = omega arith in
       let rest : Are b (a + 1) k ys =
       rec ys (subst (λ (m : ℕ). Rising m ys) up s.1)
       (λ n d j. (let h = held n d (inr j) in (h.0, h.1, bound n h.2)))
-      (λ n d le h q. later n d le (whole n d (omega arith) h q)) in
+      (λ n d le h q. later n (clause_of d) le (whole n d (omega arith) h q)) in
       ap (λ (z : Cell). start_of z ∷ map start_of ys) e ∙ ap (λ (ss : List Start). record { number = a; lits = c } ∷ ss) rest
     where
       later : (n : ℕ) (d : List Literal) → a + 1 ≤ n → In (n, d) (y ∷ ys) → In (n, d) ys
       later n d le (inl q) = let one : a ≡ n = ap (λ (z : Cell). z.0) (sym e ∙ q) in absurd (omega arith)
       later n d le (inr j) = j
 
-  part_here : (c : List Literal) → b.clause a ≡ Some c → (t : Bool) → takes_part c ≡ t → map start_of xs ≡ cons_option (cond t (Some (record { number = a; lits = c })) None) (filter_map (start_at b) (range_with_len (a + 1) k))
-  part_here c is true part = one_here c is part xs r (g a c (omega arith) is part) f g
-  part_here c is false part = none_here (λ d i. (let h = f a d i in let both : Some c ≡ Some d = sym is ∙ h.0 in let same_d : c ≡ d = cc in true≢false (sym h.1 ∙ ap takes_part (sym same_d) ∙ part)))
+  part_here : (c : List Literal) → b.clause a ≡ Some c → (t : Bool) → takes_part c ≡ t → map start_of xs ≡ cons_option (cond t (Some (record { number = a; lits = clause_of c })) None) (filter_map (start_at b) (range_with_len (a + 1) k))
+  part_here c is true part = one_here (clause_of c) xs r (g a c (omega arith) is part) f g
+  part_here c is false part = none_here (λ d i. (
+      let h = f a d i in
+      let both : Some (clause_of c) ≡ Some d = sym (ap (option_map clause_of) is) ∙ h.0 in
+      let same_d : clause_of c ≡ d = cc in
+      true≢false (sym h.1 ∙ ap takes_part (sym same_d) ∙ part_in_order c ∙ part)))
 
   here : (o : Option (List Literal)) → b.clause a ≡ o → map start_of xs ≡ cons_option (option_and_then (take_start a) o) (filter_map (start_at b) (range_with_len (a + 1) k))
-  here None is = none_here (λ c i. (let both : None ≡ Some c = sym is ∙ (f a c i).0 in let none : ⊥ = cc in none))
+  here None is = none_here (λ c i. (let both : None ≡ Some c = sym (ap (option_map clause_of) is) ∙ (f a c i).0 in let none : ⊥ = cc in none))
   here (Some c) is = part_here c is (takes_part c) refl
 
 starts_from : (b : Book) (a k : ℕ) (xs : List Cell) → Rising a xs → Held b (a + k) xs → Whole b a xs → Are b a k xs
@@ -151,13 +157,14 @@ starts_from b a (suc k) xs r f g = here b a k (λ ys s u v. starts_from b (a + 1
 
 -- the clauses of a book in order of number, those that take part
 pub starts_are : (b : Book) (m : ℕ) (cells xs : List Cell) → HaveOwnNumbers cells → IsPermutation (filter (λ (c : Cell). takes_part c.1) cells) xs → IsNonDecreasingBy (λ (c : Cell). c.0) xs
-    → ((n : ℕ) (c : List Literal) → Contains cells (n, c) → b.clause n ≡ Some c) → ((n : ℕ) (c : List Literal) → b.clause n ≡ Some c → takes_part c ≡ true → Contains cells (n, c))
+    → ((n : ℕ) (c : List Literal) → Contains cells (n, c) → option_map clause_of (b.clause n) ≡ Some c) → ((n : ℕ) (c : List Literal) → b.clause n ≡ Some c → takes_part c ≡ true → Contains cells (n, clause_of c))
     → ((n : ℕ) (c : List Literal) → b.clause n ≡ Some c → (1 ≤ n) × (n < 1 + m)) → map start_of xs ≡ filter_map (start_at b) (range_with_len 1 m)
 starts_are b m cells xs own perm up held all within =
     starts_from b 1 m xs
     (rising 1 xs up (λ n. subst (λ (k : ℕ). k ≤ 1) (sym (sum_by-IsPermutation (λ (c : Cell). one_if (c.0 == n)) kept xs perm)) (filter_once (λ (c : Cell). takes_part c.1) cells (own_once cells own) n)) low)
-    (λ n c i. (let h = member n c i in let is = held n c (In_Contains cells (n, c) h.0) in (is, h.1, (within n c is).1)))
-    (λ n c le is part. Contains_In xs (n, c) (Contains-permutation kept xs (n, c) perm (In_Contains kept (n, c) (In_filter (λ (d : Cell). takes_part d.1) cells (n, c) (Contains_In cells (n, c) (all n c is part)) part))))
+    (λ n c i. (let h = member n c i in let is = held n c (In_Contains cells (n, c) h.0) in (is, h.1, (there n c h.0).1)))
+    (λ n c le is part. Contains_In xs (n, clause_of c) (Contains-permutation kept xs (n, clause_of c) perm (In_Contains kept (n, clause_of c)
+    (In_filter (λ (d : Cell). takes_part d.1) cells (n, clause_of c) (Contains_In cells (n, clause_of c) (all n c is part)) (part_in_order c ∙ part)))))
   where
     kept : List Cell
     kept = filter (λ (c : Cell). takes_part c.1) cells
@@ -165,8 +172,11 @@ starts_are b m cells xs own perm up held all within =
     member : (n : ℕ) (c : List Literal) → In (n, c) xs → In (n, c) cells × (takes_part c ≡ true)
     member n c i = filter_In (λ (d : Cell). takes_part d.1) cells (n, c) (Contains_In kept (n, c) (Contains-permutation xs kept (n, c) (IsPermutation-sym kept xs perm) (In_Contains xs (n, c) i)))
 
+    there : (n : ℕ) (c : List Literal) → In (n, c) cells → (1 ≤ n) × (n < 1 + m)
+    there n c i = let t = in_book (b.clause n) c (held n c (In_Contains cells (n, c) i)) in within n t.0 t.1
+
     low : (d : Cell) → 0 < length xs → 1 ≤ (get_or xs 0 d).0
-    low d lt = first xs (λ n c i. (let h = member n c i in (within n c (held n c (In_Contains cells (n, c) h.0))).0)) d lt
+    low d lt = first xs (λ n c i. (there n c (member n c i).0).0) d lt
       where
         first : (ys : List Cell) → ((n : ℕ) (c : List Literal) → In (n, c) ys → 1 ≤ n) → (e : Cell) → 0 < length ys → 1 ≤ (get_or ys 0 e).0
         first [] f e h = absurd (omega arith)

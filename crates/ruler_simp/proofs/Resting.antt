@@ -1,23 +1,24 @@
 -- What is left can be gone on from.
-use Rattle.std.proofs.Common.{Less, None, ◌≡◌, ◌∙◌, ◌⊎◌, ℕ, zero, suc, ◌+◌, ◌<◌, ◌≤◌, ◌||◌, cond, true, false, List, [], ◌∷◌, ◌++◌, map, length, get_or, Some, refl, sym, ap, subst, inl, inr, arith, length-append, ⊎_elim, Contains}
+use Rattle.std.proofs.Common.{Less, None, ◌≡◌, ◌∙◌, ◌⊎◌, ℕ, zero, suc, ◌+◌, ◌<◌, ◌≤◌, ◌||◌, cond, Bool, true, false, List, [], ◌∷◌, ◌++◌, map, length, get_or, Option, Some, refl, sym, ap, subst, inl, inr, arith, length-append, append-nil, ⊎_elim, Contains}
 use Rattle.std.specs.Prelude.{Ok}
 use Rattle.std.specs.List.{list_any, All, AllByRecursion, range_with_len}
 use Rattle.std.specs.Ordering.{nat_cmp}
-use Rattle.std.specs.Option.{option_and_then}
+use Rattle.std.specs.Option.{option_and_then, option_map}
 use Rattle.std.proofs.lemmas.Bool.{or_parts}
 use Rattle.std.proofs.lemmas.Bool.Decides.{nat_tests}
 use Rattle.std.proofs.lemmas.List.Elements.{All-append}
 use Rattle.std.proofs.lemmas.List.Folds.{list_any-append}
 use Rattle.std.specs.List.Sorted.{IsStrictlySortedBy}
 use Rattle.sat_words.specs.Literal.{Literal, IsOn}
-use Rattle.sat_words.specs.Clause.{has, InOrder, is_empty, distinct_lits}
+use Rattle.sat_words.specs.Clause.{has, same_set, is_empty, distinct_lits, clause_of}
 use Rattle.sat_words.specs.FormulaData.{FormulaData}
 use Rattle.rup_model.specs.declared.journal.Entry.{Entry}
+use Rattle.rup_model.specs.declared.journal.Entry.TheVariants.{Round}
 use Rattle.rup_model.specs.Journal.{book, added, is_told, LogSound}
-use Rattle.rup_model.specs.Opening.{Start, IsStart, AreAscending, start_at, program_opening}
+use Rattle.rup_model.specs.Opening.{Start, AreAscending, start_at, program_opening}
 use Rattle.rup_model.proofs.Lists.{In, In_map, map_In, In_append_left, In_append_right, Contains_In, In_Contains}
 use Rattle.rup_model.proofs.Additions.{added-append}
-use Rattle.rup_model.proofs.ProgramOpening.{rulers_ordered, program_ascends}
+use Rattle.rup_model.proofs.ProgramOpening.{program_ascends}
 use Rattle.model_stack.specs.declared.stack.Fix.{Fix}
 use Rattle.drat_text.specs.LineState.{LineState}
 use Rattle.simp_base.specs.WorkState.{HaveOwnNumbers, IsFixOn}
@@ -30,9 +31,9 @@ use Rattle.ruler_simp.specs.declared.ruling.Outcome.TheVariants.{Simplified as L
 use Rattle.ruler_simp.specs.declared.rounds.Schedule.{Schedule}
 use Rattle.ruler_simp.specs.Left.{start_of}
 use Rattle.ruler_simp.specs.Ruled.{Ruled}
-use Rattle.ruler_simp.specs.Again.{ResumesAs, RuledAgain}
+use Rattle.ruler_simp.specs.Again.{ResumesAs, round_start, before_round, RuledAgain}
 use Rattle.ruler_simp.proofs.Numbered.{Cell}
-use Rattle.ruler_simp.proofs.Units.{In_filter_map, opened_unit}
+use Rattle.ruler_simp.proofs.Units.{In_filter_map, filter_map_In, opened_unit}
 use Rattle.ruler_simp.proofs.Leaving.{good}
 use Rattle.simp_base.specs.WorkState.{WorkState}
 
@@ -73,23 +74,36 @@ In_range a (suc k) n lo hi = ⊎_elim (λ (e : a ≡ n). inl e) (λ (lt : a + 1 
     either (suc b) zero le = absurd (omega arith)
     either (suc b) (suc m) le = ⊎_elim (λ (e : b ≡ m). inl (ap suc e)) (λ (h : b + 1 ≤ m). inr (omega arith)) (either b m (omega arith))
 
-module _ (F : List (List Literal)) (K : List Entry) (cells : List Cell) (starts : map start_of cells ≡ (program_opening F K).starts) where
-  start_held : All (IsStart (book F K)) (map start_of cells) → (n : ℕ) (c : List Literal) → Contains cells (n, c) → (book F K).clause n ≡ Some c
-  start_held each n c h = (All_In (IsStart (book F K)) (map start_of cells) (start_of (n, c)) each (In_map start_of cells (n, c) (Contains_In cells (n, c) h))).alive
+-- what stands under a number of a start clause
+taken_held : (n : ℕ) (q : Option (List Literal)) (x : Start) → option_and_then (λ d. cond (takes_part d) (Some (record { number = n; lits = clause_of d })) None) q ≡ Some x → (x.number ≡ n) × (option_map clause_of q ≡ Some x.lits)
+taken_held n None x e = absurd (let no : ⊥ = cc in no)
+taken_held n (Some d) x e = by (takes_part d) e
+  where
+    by : (t : Bool) → cond t (Some (record { number = n; lits = clause_of d })) None ≡ Some x → (x.number ≡ n) × (Some (clause_of d) ≡ Some x.lits)
+    by true q = let same_x : record { number = n; lits = clause_of d } ≡ x = cc in (sym (ap (λ (y : Start). y.number) same_x), ap (λ (y : Start). Some y.lits) same_x)
+    by false q = absurd (let no : ⊥ = cc in no)
 
-  all_starts : (n : ℕ) (c : List Literal) → (book F K).clause n ≡ Some c → takes_part c ≡ true → 1 ≤ n → n < 1 + length (F ++ added K) → Contains cells (n, c)
+module _ (F : List (List Literal)) (K : List Entry) (cells : List Cell) (starts : map start_of cells ≡ (program_opening F K).starts) where
+  start_held : (n : ℕ) (c : List Literal) → Contains cells (n, c) → option_map clause_of ((book F K).clause n) ≡ Some c
+  start_held n c h =
+      let i = In_map start_of cells (n, c) (Contains_In cells (n, c) h) in
+      let t = filter_map_In (start_at (book F K)) (range_with_len 1 (length (F ++ added K))) (start_of (n, c)) (subst (λ (ss : List Start). In (start_of (n, c)) ss) starts i) in
+      let u = taken_held t.0 ((book F K).clause t.0) (start_of (n, c)) t.2 in
+      ap (λ (m : ℕ). option_map clause_of ((book F K).clause m)) u.0 ∙ u.1
+
+  all_starts : (n : ℕ) (c : List Literal) → (book F K).clause n ≡ Some c → takes_part c ≡ true → 1 ≤ n → n < 1 + length (F ++ added K) → Contains cells (n, clause_of c)
   all_starts n c is part lo hi =
-      let one : start_at (book F K) n ≡ Some (record { number = n; lits = c }) =
-      ap (λ o. option_and_then (λ d. cond (takes_part d) (Some (record { number = n; lits = d })) None) o) is ∙ ap (λ t. cond t (Some (record { number = n; lits = c })) None) part in
-      let i = In_filter_map (start_at (book F K)) (range_with_len 1 (length (F ++ added K))) n (record { number = n; lits = c }) (In_range 1 (length (F ++ added K)) n lo hi) one in
-      let t = map_In start_of cells (record { number = n; lits = c }) (subst (λ (ss : List Start). In (record { number = n; lits = c }) ss) (sym starts) i) in
+      let one : start_at (book F K) n ≡ Some (record { number = n; lits = clause_of c }) =
+      ap (λ o. option_and_then (λ d. cond (takes_part d) (Some (record { number = n; lits = clause_of d })) None) o) is ∙ ap (λ t. cond t (Some (record { number = n; lits = clause_of c })) None) part in
+      let i = In_filter_map (start_at (book F K)) (range_with_len 1 (length (F ++ added K))) n (record { number = n; lits = clause_of c }) (In_range 1 (length (F ++ added K)) n lo hi) one in
+      let t = map_In start_of cells (record { number = n; lits = clause_of c }) (subst (λ (ss : List Start). In (record { number = n; lits = clause_of c }) ss) (sym starts) i) in
       subst (λ (x : Cell). Contains cells x) (λ j. ((t.2 j).number, (t.2 j).lits)) (In_Contains cells t.0 t.1)
 
 -- A journal after which they are those of the program's opening
 
 module _ (F : List (List Literal)) (K : List Entry) (vars : ℕ) (cells : List Cell) (units : List Literal) (stack : List Fix) (out : LineState)
     (sound : LogSound F K) (none : list_any is_empty F ≡ false) (unended : list_any is_empty (added K) ≡ false)
-    (starts : map start_of cells ≡ (program_opening F K).starts) (each : All (IsStart (book F K)) (map start_of cells)) (ordered : (n : ℕ) (c : List Literal) → Contains cells (n, c) → InOrder c)
+    (starts : map start_of cells ≡ (program_opening F K).starts)
     (told : All (λ l. is_told F K l ≡ true) units) (are : (l : Literal) → has units l ≡ has (program_opening F K).units l) (distinct : distinct_lits units ≡ true)
     (formula_on : All (All (IsOn vars)) F) (added_on : All (All (IsOn vars)) (added K)) (stack_on : All (IsFixOn vars) stack)
     (entries : out.entries ≡ length K) (last : (book F K).next ≡ out.last + 1) where
@@ -98,8 +112,7 @@ module _ (F : List (List Literal)) (K : List Entry) (vars : ℕ) (cells : List C
     sound = sound;
     going = list_any-append is_empty F (added K) ∙ (λ i. none i || unended i);
     numbers = own_numbers cells (subst AreAscending (sym starts) (program_ascends F K));
-    held = start_held F K cells starts each;
-    ordered = ordered;
+    held = start_held F K cells starts;
     all = λ n c is part. (
         let t = good F K none unended n c is in
         let m = length-append F (added K) in
@@ -120,9 +133,7 @@ left_resumes F schedule old new s on was =
     let out : new ≡ was.work.output = was.output in
     let wide : F.vars ≤ s.vars = (let v = was.has_vars in let m = was.more in omega arith) in
     resumes F.clauses was.journal s.vars s.start.items s.units.items s.stack new
-    was.stands.sound h.going h.opens.rulers_part.going h.starts h.opens.starts
-    (λ n c i. rulers_ordered F.clauses was.journal was.stands.rulers n c (start_held F.clauses was.journal s.start.items h.starts h.opens.starts n c i))
-    h.opens.told h.units h.opens.distinct
+    was.stands.sound h.going h.opens.rulers_part.going h.starts h.opens.told h.units h.opens.distinct
     (each_on_wider F.vars s.vars wide F.clauses on)
     (subst (λ (v : ℕ). All (All (IsOn v)) (added was.journal)) (sym was.has_vars) was.stands.on)
     h.on.stack
@@ -135,10 +146,13 @@ left_resumes_again F schedule start new s was J r =
     let h = (was.answer J r).0 in
     let st = was.stands J r in
     let out : new ≡ was.work.output = was.output in
+    let same : added (before_round (J ++ was.entries) s) ≡ added (J ++ was.entries) = added-append (J ++ was.entries) (Round (round_start s) ∷ []) ∙ append-nil (added (J ++ was.entries)) in
     let wide : start.vars ≤ s.vars = (let v = was.has_vars in let m = was.more in omega arith) in
     let parts = or_parts (list_any is_empty F) (list_any is_empty (added J)) (sym (list_any-append is_empty F (added J)) ∙ r.going) in
     resumes F (J ++ was.entries) s.vars s.start.items s.units.items s.stack new
-    st.sound parts.0 h.opens.going h.starts h.opens.starts h.ordered h.opens.told h.units h.opens.distinct
+    st.sound parts.0 (ap (list_any is_empty) (sym same) ∙ h.opens.going) h.starts
+    (λ k d lt. ap (λ (G : List (List Literal)). list_any (same_set (get_or s.units.items k d ∷ [])) (F ++ G)) (sym same) ∙ h.opens.told k d lt)
+    h.units h.opens.distinct
     (each_on_wider start.vars s.vars wide F (All-left (All (IsOn start.vars)) F (added J) r.on))
     (subst (λ (G : List (List Literal)). All (All (IsOn s.vars)) G) (sym (added-append J was.entries))
     (All-append (All (IsOn s.vars)) (added J) (added was.entries) (each_on_wider start.vars s.vars wide (added J) (All-right (All (IsOn start.vars)) F (added J) r.on))

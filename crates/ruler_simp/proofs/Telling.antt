@@ -1,18 +1,24 @@
 -- What simplifying a formula comes to.
-use Rattle.std.proofs.Common.{◌≡◌, ◌∙◌, ℕ, zero, suc, ◌+◌, ◌<◌, ◌≤◌, ◌||◌, not, nat_eq, Bool, true, false, List, [], ◌++◌, map, filter, length, refl, sym, ap, subst, inl, inr, arith, length-append, Some, Contains}
+use Rattle.std.proofs.Common.{◌≡◌, ◌∙◌, ℕ, zero, suc, ◌+◌, ◌<◌, ◌≤◌, ◌==◌, ◌||◌, not, nat_eq, Bool, true, false, cond, List, [], ◌∷◌, ◌++◌, map, filter, length, get_or, refl, sym, ap, subst, inl, inr, arith, length-append, append-nil, eq-eqb, Some, Contains}
 use Rattle.std.specs.Prelude.{Result, Ok, Err}
 use Rattle.std.specs.List.{list_any, All, IsDistinct}
+use Rattle.std.specs.Option.{option_map}
 use Rattle.std.proofs.lemmas.Bool.{and_parts, or_parts, not-true, true≢false}
 use Rattle.std.proofs.lemmas.List.Folds.{list_any-append}
 use Rattle.std.proofs.lemmas.List.Sorted.{IsPermutation-sym, Contains-permutation}
 use Rattle.sat_words.specs.Literal.{Literal, IsOn}
-use Rattle.sat_words.specs.Clause.{has, is_empty, distinct_lits, has_opposites, two_or_more}
+use Rattle.sat_words.specs.Clause.{has, InOrder, is_empty, distinct_lits, has_opposites, two_or_more, clause_of}
 use Rattle.sat_words.specs.Truth.{formula_true}
 use Rattle.sat_words.specs.FormulaData.{FormulaData}
+use Rattle.rup_model.specs.declared.journal.Round.{Round as RoundStart}
 use Rattle.rup_model.specs.declared.journal.Entry.{Entry}
-use Rattle.rup_model.specs.Journal.{book, added, is_told}
+use Rattle.rup_model.specs.declared.journal.Entry.TheVariants.{Round}
+use Rattle.rup_model.specs.Journal.{Book, book, added, is_told, LogSound}
 use Rattle.rup_model.specs.Opening.{Start, IsRulersPart, IsStart, IsOpening, OpensAfter, program_opening}
-use Rattle.rup_model.proofs.Lists.{In, In_map, map_In, Contains_In, In_Contains}
+use Rattle.rup_model.proofs.Lists.{In, any_In, In_map, map_In, Contains_In, In_Contains}
+use Rattle.rup_model.proofs.Additions.{added-append, told_more}
+use Rattle.rup_model.proofs.Numbers.{book_last}
+use Rattle.rup_model.proofs.JournalSteps.{log_rounds}
 use Rattle.rup_model.proofs.Units.{two_long}
 use Rattle.rup_model.proofs.ProgramOpening.{All_from_In, distinct_in_order, program_numbers, program_opens}
 use Rattle.rup_model.proofs.Refuting.{added_empty_refutes}
@@ -31,6 +37,7 @@ use Rattle.simp_base.specs.declared.work.Run.TheVariants.{Done as RunDone, Refut
 use Rattle.simp_base.proofs.Begin.{begun_work, begun_stands}
 use Rattle.simp_base.proofs.Filters.{filter_In}
 use Rattle.simp_base.proofs.Lists.{All_In}
+use Rattle.simp_base.proofs.Order.{held_ordered}
 use Rattle.simp_base.proofs.Widening.{grows_none}
 use Rattle.ruler_simp.specs.declared.ruling.Simplified.{Simplified}
 use Rattle.ruler_simp.specs.declared.ruling.Outcome.{Outcome}
@@ -39,12 +46,12 @@ use Rattle.ruler_simp.specs.declared.rounds.Schedule.{Schedule}
 use Rattle.ruler_simp.specs.Rounds.{SimplifiedIn, WasSimplified}
 use Rattle.ruler_simp.specs.Left.{start_of, left_clauses, IsLeft, IsTaken}
 use Rattle.ruler_simp.specs.Ruled.{AreOn, IsSimplified, origin_of, Ruled}
-use Rattle.ruler_simp.specs.Again.{ResumesAs, LiftsOn, IsSimplifiedAgain, RuledAgain}
+use Rattle.ruler_simp.specs.Again.{ResumesAs, LiftsOn, round_start, before_round, IsSimplifiedAgain, RuledAgain}
 use Rattle.ruler_simp.proofs.Going.{IsReady, GoesOn, IsOver}
 use Rattle.ruler_simp.proofs.Running.{whole_log, whole_vars, whole_comes, whole_first, whole_last}
 use Rattle.ruler_simp.proofs.Units.{rulers_part, units_are}
 use Rattle.ruler_simp.proofs.Numbered.{Cell, starts_are}
-use Rattle.ruler_simp.proofs.Leaving.{good, none_empty, formula_holds, known_holds}
+use Rattle.ruler_simp.proofs.Leaving.{good, held_some, none_empty, formula_holds, known_holds}
 
 -- All literals are on the variables
 
@@ -75,8 +82,15 @@ module _ (o : Origin) (mine : List Entry) (start w : WorkState) (st : Stands o m
       let m = length-append o.formula (added K) in
       (t.0, (let lt = t.1 in omega arith))
 
-  part_held : (n : ℕ) (c : List Literal) → (book o.formula K).clause n ≡ Some c → takes_part c ≡ true → Contains w.clauses (n, c)
-  part_held n c is part = elim (st.all n c is) as (λ _. Contains w.clauses (n, c)) [ inl i ↦ i | inr p ↦ absurd (true≢false (sym part ∙ p.idle)) ]
+  part_held : (n : ℕ) (c : List Literal) → (book o.formula K).clause n ≡ Some c → takes_part c ≡ true → Contains w.clauses (n, clause_of c)
+  part_held n c is part = elim (st.all n c is) as (λ _. Contains w.clauses (n, clause_of c)) [ inl i ↦ i | inr p ↦ absurd (true≢false (sym part ∙ p.idle)) ]
+
+  -- the work's clauses have their literals in order, and none is empty
+  in_order : (n : ℕ) (c : List Literal) → Contains w.clauses (n, c) → InOrder c
+  in_order n c i = held_ordered ((book o.formula K).clause n) c (st.held n c i)
+
+  some : (n : ℕ) (c : List Literal) → Contains w.clauses (n, c) → is_empty c ≡ false
+  some n c i = held_some ((book o.formula K).clause n) c (st.held n c i) (λ d is. (good o.formula K none unended n d is).2)
 
   pub starts : map start_of s.start.items ≡ (program_opening o.formula K).starts
   starts = starts_are (book o.formula K) (length (o.formula ++ added K)) w.clauses s.start.items kept.numbers left.kept left.sorted st.held part_held within
@@ -96,7 +110,7 @@ module _ (o : Origin) (mine : List Entry) (start w : WorkState) (st : Stands o m
     fixes = goes.lifted.fixes;
     stack = left.stack ∙ goes.lifted.stack;
     lifts = λ a t. goes.lifted.lifts a
-        (known_holds w s.start.items left.kept st.ordered (λ n c i. (good o.formula K none unended n c (st.held n c i)).2) alone a
+        (known_holds w s.start.items left.kept in_order some alone a
         (subst (λ (us : List Literal). formula_true a (lists s.start.items ++ unit_clauses us) ≡ true) left.units t));
   }
 
@@ -109,26 +123,48 @@ module _ (o : Origin) (mine : List Entry) (start w : WorkState) (st : Stands o m
       let cells : List Cell = filter (λ (c : Cell). takes_part c.1) w.clauses in
       filter_In (λ (c : Cell). takes_part c.1) w.clauses x (Contains_In cells x (Contains-permutation s.start.items cells x (IsPermutation-sym cells s.start.items left.kept) (In_Contains s.start.items x i)))
 
+  -- An entry begins the next round
+
+  abbrev next_start : RoundStart
+  next_start = round_start s
+
+  abbrev R : List Entry
+  R = before_round K s
+
+  added_same : added R ≡ added K
+  added_same = added-append K (Round next_start ∷ []) ∙ append-nil (added K)
+
+  -- a start clause is spelled in order from there on
+  alive_there : (n : ℕ) (c : List Literal) → In (n, c) s.start.items → Contains w.clauses (n, c) → (book o.formula R).clause n ≡ Some c
+  alive_there n c i there =
+      let among : list_any (λ m. m == n) next_start.starts ≡ true = any_In (λ (m : ℕ). m == n) next_start.starts n (In_map (λ (x : Cell). x.0) s.start.items (n, c) i) (eq-eqb n n refl) in
+      ap (λ (b : Book). b.clause n) (book_last o.formula K (Round next_start))
+      ∙ ap (λ (t : Bool). cond t (option_map clause_of ((book o.formula K).clause n)) ((book o.formula K).clause n)) among
+      ∙ st.held n c there
+
   -- they are alive and long
-  each_start : All (IsStart (book o.formula K)) (map start_of s.start.items)
-  each_start = All_from_In (IsStart (book o.formula K)) (map start_of s.start.items) (λ x i. (
+  each_start : All (IsStart (book o.formula R)) (map start_of s.start.items)
+  each_start = All_from_In (IsStart (book o.formula R)) (map start_of s.start.items) (λ x i. (
       let t = map_In start_of s.start.items x i in
       let m = from_work t.0 t.1 in
       let there : Contains w.clauses (t.0.0, t.0.1) = In_Contains w.clauses t.0 m.0 in
       let parts = and_parts (two_or_more t.0.1) (not (has_opposites t.0.1)) m.1 in
-      subst (IsStart (book o.formula K)) t.2 (record {
-        alive = st.held t.0.0 t.0.1 there;
-        shape = record { long = two_long t.0.1 parts.0; distinct = distinct_in_order t.0.1 (st.ordered t.0.0 t.0.1 there); no_opposites = not-true (has_opposites t.0.1) parts.1 };
+      subst (IsStart (book o.formula R)) t.2 (record {
+        alive = alive_there t.0.0 t.0.1 t.1 there;
+        shape = record { long = two_long t.0.1 parts.0; distinct = distinct_in_order t.0.1 (in_order t.0.0 t.0.1 there); no_opposites = not-true (has_opposites t.0.1) parts.1 };
       })))
 
-  pub opens_after : OpensAfter o.formula (record { journal = K; starts = map start_of s.start.items; units = s.units.items })
+  sound_there : LogSound o.formula R
+  sound_there = log_rounds o.formula K st.sound next_start unended
+
+  pub opens_after : OpensAfter o.formula (record { journal = R; starts = map start_of s.start.items; units = s.units.items })
   opens_after = record {
-    fits = st.sound.fits;
-    accepted = st.sound.accepted;
-    going = unended;
+    fits = sound_there.fits;
+    accepted = sound_there.accepted;
+    going = ap (list_any is_empty) added_same ∙ unended;
     starts = each_start;
     numbers = subst (λ (ss : List Start). IsDistinct nat_eq (map (λ (x : Start). x.number) ss)) (sym starts) (program_numbers o.formula K);
-    told = told;
+    told = λ k d lt. told_more o.formula K (Round next_start ∷ []) (get_or s.units.items k d) (told k d lt);
     distinct = distinct;
   }
 
@@ -137,7 +173,6 @@ module _ (o : Origin) (mine : List Entry) (start w : WorkState) (st : Stands o m
     opens = opens_after;
     starts = starts;
     units = units;
-    ordered = λ n c i. st.ordered n c (In_Contains w.clauses (n, c) (from_work (n, c) (Contains_In s.start.items (n, c) i)).0);
     lifts = lifts_on;
     on = on;
   }

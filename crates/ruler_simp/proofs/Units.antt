@@ -32,6 +32,15 @@ In_filter_map {X} {Y} h (z ∷ xs) x y i e = by (h z) refl i (λ k. In_filter_ma
     by (Some w) is (inl q) rec = inl (let both : Some w ≡ Some y = sym is ∙ ap h q ∙ e in let same_w : w ≡ y = cc in same_w)
     by (Some w) is (inr k) rec = inr (rec k)
 
+pub filter_map_In : {X Y : Type 0} (h : X → Option Y) (xs : List X) (y : Y) → In y (filter_map h xs) → (x : X) × In x xs × (h x ≡ Some y)
+filter_map_In h [] y i = absurd i
+filter_map_In {X} {Y} h (z ∷ xs) y i = by (h z) refl i (λ k. filter_map_In h xs y k)
+  where
+    by : (o : Option Y) → h z ≡ o → In y (cons_option o (filter_map h xs)) → (In y (filter_map h xs) → (x : X) × In x xs × (h x ≡ Some y)) → (x : X) × In x (z ∷ xs) × (h x ≡ Some y)
+    by None is j rec = let t = rec j in (t.0, inr t.1, t.2)
+    by (Some w) is (inl q) rec = (z, inl refl, is ∙ ap (λ (v : Y). Some v) q)
+    by (Some w) is (inr k) rec = let t = rec k in (t.0, inr t.1, t.2)
+
 In_unique : (xs : List Literal) (l : Literal) → In l xs → In l (unique_keys same xs)
 In_unique [] l i = i
 In_unique (x ∷ xs) l i = by (is_member same xs x) refl i (In_unique xs l)

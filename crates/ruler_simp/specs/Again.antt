@@ -1,8 +1,10 @@
 -- What going on with a formula promises: its rings have written into the journal, and the ruler works again.
-use Rattle.std.specs.Prelude.{◌≡◌, ◌≤◌, ◌^◌, ℕ, false, true, List, ◌++◌, map, All, Contains, Result, Ok, Err}
+use Rattle.std.specs.Prelude.{◌≡◌, ◌≤◌, ◌^◌, ℕ, false, List, [], ◌∷◌, ◌++◌, map, All, Result, Ok, Err}
 use Rattle.sat_words.specs.Literal.{Literal}
-use Rattle.sat_words.specs.Clause.{has, InOrder}
+use Rattle.sat_words.specs.Clause.{has}
+use Rattle.rup_model.specs.declared.journal.Round.{Round as RoundStart}
 use Rattle.rup_model.specs.declared.journal.Entry.{Entry}
+use Rattle.rup_model.specs.declared.journal.Entry.TheVariants.{Round}
 use Rattle.rup_model.specs.Log.{Refutes}
 use Rattle.rup_model.specs.Journal.{lines}
 use Rattle.rup_model.specs.Opening.{OpensAfter, program_opening}
@@ -32,13 +34,20 @@ pub record LiftsOn (start : WorkState) (s : Simplified) : Type 0 where
   pub stack : s.stack ≡ start.stack ++ fixes
   pub lifts : Lifts (known start) (left_clauses s) fixes
 
--- after this journal the start clauses, in their order, and the units are those of the program's opening; each start clause has its
--- literals in order; models lift; all are on the variables that are left
+-- what the next round of the rings begins with
+abbrev pub round_start : Simplified → RoundStart
+round_start s = record { starts = map (λ c. c.0) s.start.items; units = s.units.items }
+
+-- the journal after which that round begins
+abbrev pub before_round : List Entry → Simplified → List Entry
+before_round journal s = journal ++ Round (round_start s) ∷ []
+
+-- after this journal the start clauses, in their order, and the units are those of the program's opening, and once an entry begins
+-- the next round the rings can start from them; models lift; all are on the variables that are left
 pub record IsSimplifiedAgain (F : List (List Literal)) (start : WorkState) (journal : List Entry) (s : Simplified) : Type 0 where
-  pub opens : OpensAfter F (record { journal = journal; starts = map start_of s.start.items; units = s.units.items })
+  pub opens : OpensAfter F (record { journal = before_round journal s; starts = map start_of s.start.items; units = s.units.items })
   pub starts : map start_of s.start.items ≡ (program_opening F journal).starts
   pub units : (l : Literal) → has s.units.items l ≡ has (program_opening F journal).units l
-  pub ordered : (n : ℕ) (c : List Literal) → Contains s.start.items (n, c) → InOrder c
   pub lifts : LiftsOn start s
   pub on : AreOn s.vars s
 

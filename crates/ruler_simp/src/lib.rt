@@ -1,4 +1,5 @@
-//! The ruler: it simplifies a formula before the search, and again while the search rests, and leaves what the search starts from.
+//! The ruler: it simplifies a formula before the search, and leaves what the search starts from. A second call, `again`, goes on
+//! with what is alive after the lines of a search; the program does not make it yet.
 #![tactic(auto)]
 
 mod laws;

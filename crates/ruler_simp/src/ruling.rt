@@ -1,5 +1,5 @@
-// The calls: a formula is simplified in rounds, or what is left of one while the search rests, and what is left then is taken
-// apart for the search.
+// The calls: a formula is simplified in rounds, or what is alive after the lines of a search, and what is left then is taken apart
+// for the search.
 ghost use Rattle.std.specs.Prelude.{◌≡◌, false, length, All};
 ghost use Rattle.sat_words.specs.Literal.{IsOn};
 ghost use Rattle.simp_base.specs.WorkState.{resumed};
@@ -95,8 +95,8 @@ pub fn simplify<L: LineOut>(
 }
 
 /// Simplifies what is left of a formula once more: `clauses`, under their numbers, are those of two literals or more and without
-/// opposites that are alive after a journal, and `units` all that are in the formula or were added, each once. The rounds are
-/// those of `simplify`.
+/// opposites that are alive after a journal, whoever added them, and `units` all that are in the formula or were added, each
+/// once. The rounds are those of `simplify`. The program does not call it yet.
 ///
 /// The lines go to the output, after those of the journal, and the entries of the stack after those that it has, so that it mends a
 /// model of what is left to one of the formula. The output comes back with each answer. After a fault it takes no more lines; after

@@ -5,19 +5,22 @@ use Rattle.std.specs.Option.{unwrap_or}
 use Rattle.std.proofs.lemmas.Bool.{or_left, or_parts, and_from}
 use Rattle.std.proofs.lemmas.List.Folds.{list_any-append}
 use Rattle.sat_words.specs.Literal.{Literal}
-use Rattle.sat_words.specs.Clause.{is_empty, two_or_more}
+use Rattle.sat_words.specs.Clause.{same_set, is_empty, two_or_more}
 use Rattle.sat_words.specs.declared.line.Line.{Line}
 use Rattle.sat_words.specs.declared.line.Line.TheVariants.{Add as AddLine, Del as DelLine}
 use Rattle.rup_model.specs.Rup.{rup}
 use Rattle.rup_model.specs.Log.{alive, is_valid, Accepted}
 use Rattle.rup_model.specs.declared.journal.Addition.{Addition}
+use Rattle.rup_model.specs.declared.journal.Round.{Round as RoundStart}
 use Rattle.rup_model.specs.declared.journal.Entry.{Entry}
-use Rattle.rup_model.specs.declared.journal.Entry.TheVariants.{Add, Del, Reduce}
-use Rattle.rup_model.specs.Journal.{book, lines, IsFit, added, ended, EmptyLast, LogSound}
+use Rattle.rup_model.specs.declared.journal.Entry.TheVariants.{Add, Del, Reduce, Round}
+use Rattle.rup_model.specs.Journal.{spelled_by, book, lines, IsFit, added, ended, EmptyLast, LogSound}
 use Rattle.rup_model.proofs.Sequences.{each_last}
 use Rattle.rup_model.proofs.Copies.{copies_any}
-use Rattle.rup_model.proofs.Units.{two_more}
-use Rattle.rup_model.proofs.Numbers.{clause_copies, journal_matches, lines_last}
+use Rattle.rup_model.proofs.Covers.{same_back}
+use Rattle.rup_model.proofs.Respelling.{spelled_by_same}
+use Rattle.rup_model.proofs.Units.{two_more, two_same}
+use Rattle.rup_model.proofs.Numbers.{same_copies_alive, journal_matches, lines_last}
 
 -- if the log is not ended, no entry adds the empty clause
 pub not_added : (F : List (List Literal)) (J : List Entry) → ended F J ≡ false → list_any is_empty (added J) ≡ false
@@ -43,13 +46,16 @@ module _ (F : List (List Literal)) (J : List Entry) (h : LogSound F J) where
   pub log_dels : (r n : ℕ) (c : List Literal) → (book F J).clause n ≡ Some c → two_or_more c ≡ true → list_any is_empty (added J) ≡ false → LogSound F (J ++ Del r n ∷ [])
   log_dels r n c is two going =
       let d : List Literal = unwrap_or ((book F J).clause n) [] in
+      let s : List Literal = spelled_by r d in
+      let alike : same_set d s ≡ true = spelled_by_same r d in
       let same_d : c ≡ d = sym (ap (λ (o : Option (List Literal)). unwrap_or o []) is) in
       let m = journal_matches F J h.fits in
       let is_d : (book F J).clause n ≡ Some d = is ∙ ap (λ (q : List Literal). Some q) same_d in
       record {
         fits = each_last (λ before e. IsFit (book F before) e) [] J (Del r n) h.fits (record { numbered = tt; names = (c, is, two) });
-        accepted = subst (Accepted F) (sym (lines_last F J (Del r n))) (one_more_line F (lines F J) (DelLine d) h.accepted
-            (and_from _ _ (copies_any d (alive F (lines F J)) (clause_copies (book F J) (alive F (lines F J)) n d m is_d)) (two_more d (subst (λ (q : List Literal). two_or_more q ≡ true) same_d two))));
+        accepted = subst (Accepted F) (sym (lines_last F J (Del r n))) (one_more_line F (lines F J) (DelLine s) h.accepted
+            (and_from _ _ (copies_any s (alive F (lines F J)) (same_copies_alive (book F J) (alive F (lines F J)) n s d m is_d (same_back d s alike)))
+            (two_more s (two_same d s alike (subst (λ (q : List Literal). two_or_more q ≡ true) same_d two)))));
         empty_last = empty_last_more J (Del r n) h.empty_last going;
       }
 
@@ -58,6 +64,13 @@ module _ (F : List (List Literal)) (J : List Entry) (h : LogSound F J) where
     fits = each_last (λ before e. IsFit (book F before) e) [] J (Reduce r) h.fits (record { numbered = tt; names = tt });
     accepted = subst (Accepted F) (sym (lines_last F J (Reduce r) ∙ append-nil (lines F J))) h.accepted;
     empty_last = empty_last_more J (Reduce r) h.empty_last going;
+  }
+
+  pub log_rounds : (x : RoundStart) → list_any is_empty (added J) ≡ false → LogSound F (J ++ Round x ∷ [])
+  log_rounds x going = record {
+    fits = each_last (λ before e. IsFit (book F before) e) [] J (Round x) h.fits (record { numbered = tt; names = tt });
+    accepted = subst (Accepted F) (sym (lines_last F J (Round x) ∙ append-nil (lines F J))) h.accepted;
+    empty_last = empty_last_more J (Round x) h.empty_last going;
   }
 
 -- the empty journal

@@ -1,5 +1,5 @@
 -- What a journal that fits leaves alive by numbers is what its lines leave alive.
-use Rattle.std.proofs.Common.{◌≡◌, ◌⊎◌, ℕ, zero, suc, ◌<◌, ◌≤◌, ◌==◌, Bool, true, false, cond, List, [], ◌∷◌, ◌++◌, length, Option, Some, None, refl, sym, ap, ◌∙◌, subst, inl, inr, ⊎_elim, arith, append_assoc, append-nil}
+use Rattle.std.proofs.Common.{◌≡◌, ◌⊎◌, ℕ, zero, suc, ◌<◌, ◌≤◌, true, List, [], ◌∷◌, ◌++◌, length, Option, Some, None, refl, sym, ap, ◌∙◌, subst, inl, inr, ⊎_elim, arith, append_assoc, append-nil}
 use Rattle.std.specs.List.{fold, slice_get}
 use Rattle.std.specs.Option.{option_map, unwrap_or}
 use Rattle.std.proofs.lemmas.List.Sums.{fold-append}
@@ -10,23 +10,20 @@ use Rattle.sat_words.proofs.Insertion.{same_set-clause_of}
 use Rattle.rup_model.specs.Basics.{put, below, one_if}
 use Rattle.rup_model.specs.Rup.{rup}
 use Rattle.rup_model.specs.Log.{copies, alive_after, alive}
-use Rattle.rup_model.specs.declared.journal.TheConstants.{RULER_RING}
 use Rattle.rup_model.specs.declared.journal.Addition.{Addition}
+use Rattle.rup_model.specs.declared.journal.Round.{Round as RoundStart}
 use Rattle.rup_model.specs.declared.journal.Entry.{Entry}
-use Rattle.rup_model.specs.declared.journal.Entry.TheVariants.{Add, Del, Reduce}
-use Rattle.rup_model.specs.Journal.{Book, formula_clause, formula_book, spelled, book_after, book, copies_at, copies_in, lines_after, lines_from, lines, IsFit, Fits}
+use Rattle.rup_model.specs.declared.journal.Entry.TheVariants.{Add, Del, Reduce, Round}
+use Rattle.rup_model.specs.Journal.{Book, formula_clause, formula_book, spelled_by, spelled, respelled, book_after, book, copies_at, copies_in, lines_after, lines_from, lines, IsFit, Fits}
 use Rattle.rup_model.proofs.Lists.{In}
 use Rattle.rup_model.proofs.Sums.{at_put, put_here, put_else, below_same, below_put, below_at, below_first}
 use Rattle.rup_model.proofs.Sequences.{fold_last, EachState, to_states}
-use Rattle.rup_model.proofs.Covers.{same_self, same_as, same_chain, rup_covered}
+use Rattle.rup_model.proofs.Covers.{same_back, same_self, same_as, same_chain, rup_covered}
 use Rattle.rup_model.proofs.Copies.{copies-cons, copies_some, copies_without}
+use Rattle.rup_model.proofs.Respelling.{spelled_by_same, respelled_none, respelled_copies}
 
 pub spelled_same : (x : Addition) → same_set x.lits (spelled x) ≡ true
-spelled_same x = by (x.ring == RULER_RING)
-  where
-    by : (b : Bool) → same_set x.lits (cond b (clause_of x.lits) x.lits) ≡ true
-    by true = same_set-clause_of x.lits
-    by false = same_self x.lits
+spelled_same x = spelled_by_same x.ring x.lits
 
 -- each clause has as many numbers as it has copies, and only numbers of additions so far are taken
 pub record Matches (b : Book) (G : List (List Literal)) : Type 0 where
@@ -64,11 +61,15 @@ clause_below b G n c m is = ⊎_elim (λ (lt : n < b.next). lt) (λ (le : b.next
     lt_or_ge zero (suc y) = inl (omega arith)
     lt_or_ge (suc x) (suc y) = ⊎_elim (λ (h : x < y). inl (omega arith)) (λ (h : y ≤ x). inr (omega arith)) (lt_or_ge x y)
 
-pub clause_copies : (b : Book) (G : List (List Literal)) (n : ℕ) (c : List Literal) → Matches b G → b.clause n ≡ Some c → 0 < copies c G
-clause_copies b G n c m is =
-    let le = below_at b.next n (λ k. copies_at c (b.clause k)) (clause_below b G n c m is) in
-    let one : copies_at c (b.clause n) ≡ 1 = ap (copies_at c) is ∙ ap one_if (same_self c) in
+-- a clause with the literals of one that is alive under a number
+pub same_copies_alive : (b : Book) (G : List (List Literal)) (n : ℕ) (c d : List Literal) → Matches b G → b.clause n ≡ Some d → same_set c d ≡ true → 0 < copies c G
+same_copies_alive b G n c d m is alike =
+    let le = below_at b.next n (λ k. copies_at c (b.clause k)) (clause_below b G n d m is) in
+    let one : copies_at c (b.clause n) ≡ 1 = ap (copies_at c) is ∙ ap one_if alike in
     let e = m.same_copies c in omega arith
+
+pub clause_copies : (b : Book) (G : List (List Literal)) (n : ℕ) (c : List Literal) → Matches b G → b.clause n ≡ Some c → 0 < copies c G
+clause_copies b G n c m is = same_copies_alive b G n c c m is (same_self c)
 
 add_step : (b : Book) (G : List (List Literal)) (x : Addition) → Matches b G → Matches (book_after b (Add x)) (x.lits ∷ G)
 add_step b G x m = record {
@@ -85,22 +86,30 @@ add_step b G x m = record {
 del_step : (b : Book) (G : List (List Literal)) (r n : ℕ) → IsFit b (Del r n) → Matches b G → Matches (book_after b (Del r n)) (fold alive_after G (lines_after b (Del r n)))
 del_step b G r n fit m =
     let d : List Literal = unwrap_or (b.clause n) [] in
+    let s : List Literal = spelled_by r d in
     let is : b.clause n ≡ Some d = fit.names.1 ∙ sym (ap (λ (q : Option (List Literal)). Some (unwrap_or q [])) fit.names.1) in
     record {
       same_copies = λ c.
           let f : ℕ → Option (List Literal) = put b.clause n None in
           let x = below_put b.next n (λ k. copies_at c (b.clause k)) (λ k. copies_at c (f k)) (clause_below b G n d m is) (λ k ne. ap (copies_at c) (put_else b.clause n None k ne)) in
           let here : copies_at c (f n) ≡ 0 = ap (copies_at c) (put_here b.clause n None) in
-          let was : copies_at c (b.clause n) ≡ one_if (same_set c d) = ap (copies_at c) is in
-          let w = copies_without d c G (clause_copies b G n d m is) in
+          let was : copies_at c (b.clause n) ≡ one_if (same_set c s) = ap (copies_at c) is ∙ ap one_if (same_as c d s (spelled_by_same r d)) in
+          let w = copies_without s c G (same_copies_alive b G n s d m is (same_back d s (spelled_by_same r d))) in
           let old = m.same_copies c in omega arith;
       above = λ k le. at_put b.clause n None (λ y. y ≡ None) k (λ _. refl) (λ _. m.above k le);
     }
+
+round_step : (b : Book) (G : List (List Literal)) (x : RoundStart) → Matches b G → Matches (book_after b (Round x)) G
+round_step b G x m = record {
+  same_copies = λ c. m.same_copies c ∙ sym (below_same b.next (λ n. copies_at c (b.clause n)) (λ n. copies_at c (respelled x.starts b.clause n)) (λ n lt. respelled_copies x.starts b.clause n c));
+  above = λ n le. respelled_none x.starts b.clause n (m.above n le);
+}
 
 pub matches_step : (b : Book) (G : List (List Literal)) (e : Entry) → IsFit b e → Matches b G → Matches (book_after b e) (fold alive_after G (lines_after b e))
 matches_step b G (Add x) fit m = add_step b G x m
 matches_step b G (Del r n) fit m = del_step b G r n fit m
 matches_step b G (Reduce r) fit m = m
+matches_step b G (Round x) fit m = round_step b G x m
 
 matches_from : (b : Book) (J : List Entry) (G : List (List Literal)) → EachState book_after IsFit b J → Matches b G → Matches (fold book_after b J) (fold alive_after G (lines_from b J))
 matches_from b [] G h m = m

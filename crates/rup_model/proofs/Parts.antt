@@ -11,8 +11,8 @@ use Rattle.rup_model.specs.declared.journal.Addition.{Addition}
 use Rattle.rup_model.specs.declared.journal.Kind.{Kind}
 use Rattle.rup_model.specs.declared.journal.Kind.TheVariants.{Ruler, Learn, Derive, UnitLine}
 use Rattle.rup_model.specs.declared.journal.Entry.{Entry}
-use Rattle.rup_model.specs.declared.journal.Entry.TheVariants.{Add, Del, Reduce}
-use Rattle.rup_model.specs.Journal.{reduction, ring_of, additions, is_learn, learned, is_ring, recent_after, recent, IsSpaced}
+use Rattle.rup_model.specs.declared.journal.Entry.TheVariants.{Add, Del, Reduce, Round}
+use Rattle.rup_model.specs.Journal.{reduction, ring_of, round_of, additions, is_learn, learned, is_ring, recent_after, recent, IsSpaced}
 use Rattle.rup_model.specs.Opening.{is_ruler, is_rulers, Opening, IsNew}
 use Rattle.rup_model.specs.Spent.{ruler_part, rings_part}
 
@@ -20,7 +20,7 @@ use Rattle.rup_model.specs.Spent.{ruler_part, rings_part}
 
 -- an entry of a ring is not the ruler's
 pub rings_entry : (e : Entry) → ring_of e < RULER_RING → is_rulers e ≡ false
-rings_entry e lt = by (ring_of e == RULER_RING) (list_all (λ (x : Addition). is_ruler x.kind) (additions (e ∷ [])) && is_none (reduction e)) (ne_eqb (ring_of e) RULER_RING (λ q. omega arith))
+rings_entry e lt = by (ring_of e == RULER_RING) (list_all (λ (x : Addition). is_ruler x.kind) (additions (e ∷ [])) && (is_none (reduction e) && is_none (round_of e))) (ne_eqb (ring_of e) RULER_RING (λ q. omega arith))
   where
     by : (t u : Bool) → t ≡ false → (t && u) ≡ false
     by true u q = absurd (true≢false q)
@@ -65,6 +65,7 @@ rulers_new_entry : (o : Opening) (before : List Entry) (e : Entry) → is_rulers
 rulers_new_entry o before (Add x) r = λ learns. absurd (true≢false (sym learns ∙ rulers_kind x r))
 rulers_new_entry o before (Del q n) r = tt
 rulers_new_entry o before (Reduce q) r = tt
+rulers_new_entry o before (Round x) r = tt
 
 pub rulers_new : (o : Opening) (J0 : List Entry) → All (λ e. is_rulers e ≡ true) J0 → EachAfter (IsNew o) [] J0
 rulers_new o J0 rulers = rulers_each (IsNew o) (rulers_new_entry o) [] J0 rulers
@@ -77,6 +78,7 @@ rulers_spaced_entry before (Reduce q) r = absurd (by (q == RULER_RING) r)
     by : (t : Bool) → (t && false) ≡ true → ⊥
     by true e = true≢false (sym e)
     by false e = true≢false (sym e)
+rulers_spaced_entry before (Round x) r = tt
 
 pub rulers_spaced : (J0 : List Entry) → All (λ e. is_rulers e ≡ true) J0 → EachAfter IsSpaced [] J0
 rulers_spaced J0 rulers = rulers_each IsSpaced rulers_spaced_entry [] J0 rulers
@@ -90,6 +92,7 @@ learned_entry r (Add x) rulers = by (x.ring == r) (is_learn x.kind) (rulers_kind
     by false u e = refl
 learned_entry r (Del q n) rulers = refl
 learned_entry r (Reduce q) rulers = refl
+learned_entry r (Round x) rulers = refl
 
 recent_entry : (r : ℕ) (e : Entry) → is_rulers e ≡ true → recent_after r [] e ≡ []
 recent_entry r e rulers = by (is_ring r (reduction e)) (learned_entry r e rulers)

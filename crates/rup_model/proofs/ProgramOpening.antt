@@ -10,16 +10,15 @@ use Rattle.std.proofs.lemmas.Bool.{and_parts, and_from, cases_Bool, not-true, tr
 use Rattle.std.proofs.lemmas.Bool.Decides.{nat_tests}
 use Rattle.sat_words.specs.Literal.{Literal, same, lit_cmp, code_of}
 use Rattle.sat_words.specs.Clause.{has, InOrder, same_set, distinct_lits, has_opposites, two_or_more, clause_of}
-use Rattle.sat_words.proofs.Members.{same-true}
-use Rattle.sat_words.proofs.Insertion.{InOrder-clause_of}
+use Rattle.sat_words.proofs.Insertion.{InOrder-clause_of, clause_of_in_order}
 use Rattle.rup_model.specs.declared.journal.TheConstants.{RULER_RING}
 use Rattle.rup_model.specs.declared.journal.Entry.{Entry}
-use Rattle.rup_model.specs.declared.journal.Entry.TheVariants.{Add, Del, Reduce}
+use Rattle.rup_model.specs.declared.journal.Entry.TheVariants.{Add, Del, Reduce, Round}
 use Rattle.rup_model.specs.Journal.{Book, formula_book, spelled, book_after, book, added, is_told}
-use Rattle.rup_model.specs.Opening.{is_rulers, IsRulersPart, Start, IsStart, AreAscending, IsOpening, start_at, only_literal, program_opening}
-use Rattle.rup_model.proofs.Lists.{In, any_In, has_In, In_has, In_all, all_In, In_get_or}
+use Rattle.rup_model.specs.Opening.{is_rulers, IsRulersPart, Start, IsLong, IsStart, AreAscending, IsOpening, start_at, only_literal, program_opening}
+use Rattle.rup_model.proofs.Lists.{In, any_In, has_In, In_has, In_get_or}
 use Rattle.rup_model.proofs.Sums.{at_put}
-use Rattle.rup_model.proofs.Units.{two_long}
+use Rattle.rup_model.proofs.Units.{two_long, one_unit}
 
 -- Lists
 
@@ -65,7 +64,7 @@ ordered_some : (o : Option (List Literal)) (c : List Literal) → option_map cla
 ordered_some None c e = absurd (let no : ⊥ = cc in no)
 ordered_some (Some d) c e = let same_c : clause_of d ≡ c = cc in subst InOrder same_c (InOrder-clause_of d)
 
-formula_ordered : (F : List (List Literal)) → Ordered (formula_book F)
+pub formula_ordered : (F : List (List Literal)) → Ordered (formula_book F)
 formula_ordered F zero c e = absurd (let no : ⊥ = cc in no)
 formula_ordered F (suc i) c e = ordered_some (slice_get F i) c e
 
@@ -83,6 +82,7 @@ ordered_step b (Add x) r o n c =
     by false e = absurd (true≢false (sym e))
 ordered_step b (Del q k) r o n c = at_put b.clause k None (λ y. y ≡ Some c → InOrder c) n (λ _ e. absurd (let no : ⊥ = cc in no)) (λ _. o n c)
 ordered_step b (Reduce q) r o n c = o n c
+ordered_step b (Round x) r o n c = absurd (true≢false (sym r))
 
 ordered_from : (b : Book) (J : List Entry) → All (λ e. is_rulers e ≡ true) J → Ordered b → Ordered (fold book_after b J)
 ordered_from b [] r o = o
@@ -94,30 +94,39 @@ rulers_ordered F J0 r = ordered_from (formula_book F) J0 r (formula_ordered F)
 -- Start clauses
 
 abbrev take_start : ℕ → List Literal → Option Start
-take_start n c = cond (two_or_more c && not (has_opposites c)) (Some (record { number = n; lits = c })) None
+take_start n c = cond (two_or_more c && not (has_opposites c)) (Some (record { number = n; lits = clause_of c })) None
 
 taken : (n : ℕ) (c : List Literal) (t : Bool) (s : Start) → cond t (Some (record { number = n; lits = c })) None ≡ Some s → (t ≡ true) × (s.number ≡ n) × (s.lits ≡ c)
 taken n c true s e = let same_s : record { number = n; lits = c } ≡ s = cc in (refl, sym (ap (λ (x : Start). x.number) same_s), sym (ap (λ (x : Start). x.lits) same_s))
 taken n c false s e = absurd (let no : ⊥ = cc in no)
 
-started : (b : Book) (n : ℕ) (s : Start) → start_at b n ≡ Some s
-    → (s.number ≡ n) × (b.clause n ≡ Some s.lits) × (two_or_more s.lits ≡ true) × (has_opposites s.lits ≡ false)
+-- the start clause under the number, and the clause that stands there
+record Started (b : Book) (n : ℕ) (s : Start) : Type 0 where
+  number : s.number ≡ n
+  clause : List Literal
+  alive : b.clause n ≡ Some clause
+  lits : s.lits ≡ clause_of clause
+  two : two_or_more clause ≡ true
+  no_opposites : has_opposites clause ≡ false
+
+started : (b : Book) (n : ℕ) (s : Start) → start_at b n ≡ Some s → Started b n s
 started b n s = by (b.clause n) refl
   where
-    by : (o : Option (List Literal)) → b.clause n ≡ o → option_and_then (take_start n) o ≡ Some s
-        → (s.number ≡ n) × (b.clause n ≡ Some s.lits) × (two_or_more s.lits ≡ true) × (has_opposites s.lits ≡ false)
+    by : (o : Option (List Literal)) → b.clause n ≡ o → option_and_then (take_start n) o ≡ Some s → Started b n s
     by None e h = absurd (let no : ⊥ = cc in no)
     by (Some c) e h =
-        let t = taken n c (two_or_more c && not (has_opposites c)) s h in
+        let t = taken n (clause_of c) (two_or_more c && not (has_opposites c)) s h in
         let p = and_parts (two_or_more c) (not (has_opposites c)) t.0 in
-        (t.1, e ∙ ap (λ (d : List Literal). Some d) (sym t.2), subst (λ (d : List Literal). two_or_more d ≡ true) (sym t.2) p.0, subst (λ (d : List Literal). has_opposites d ≡ false) (sym t.2) (not-true _ p.1))
+        record { number = t.1; clause = c; alive = e; lits = t.2; two = p.0; no_opposites = not-true _ p.1 }
 
 is_start : (b : Book) (n : ℕ) (s : Start) → Ordered b → start_at b n ≡ Some s → IsStart b s
 is_start b n s o e =
     let t = started b n s e in
+    let in_order : InOrder t.clause = o n t.clause t.alive in
+    let same_s : t.clause ≡ s.lits = sym (t.lits ∙ clause_of_in_order t.clause in_order) in
     record {
-      alive = ap b.clause t.0 ∙ t.1;
-      shape = record { long = two_long s.lits t.2; distinct = distinct_in_order s.lits (o n s.lits t.1); no_opposites = t.3 };
+      alive = ap b.clause t.number ∙ t.alive ∙ ap (λ (d : List Literal). Some d) same_s;
+      shape = subst IsLong same_s (record { long = two_long t.clause t.two; distinct = distinct_in_order t.clause in_order; no_opposites = t.no_opposites });
     }
 
 abbrev starts_from : Book → ℕ → ℕ → List Start
@@ -128,7 +137,7 @@ numbers_of ss = map (λ s. s.number) ss
 
 later : (b : Book) (k a n : ℕ) → k < a → AllByRecursion (λ y. nat_eq k y ≡ false) (numbers_of (starts_from b a n))
 later b k a zero lt = tt
-later b k a (suc n) lt = by (start_at b a) (λ s e. (started b a s e).0) (later b k (a + 1) n (omega arith))
+later b k a (suc n) lt = by (start_at b a) (λ s e. (started b a s e).number) (later b k (a + 1) n (omega arith))
   where
     by : (o : Option Start) → ((s : Start) → o ≡ Some s → s.number ≡ a) → AllByRecursion (λ y. nat_eq k y ≡ false) (numbers_of (starts_from b (a + 1) n))
         → AllByRecursion (λ y. nat_eq k y ≡ false) (numbers_of (cons_option o (starts_from b (a + 1) n)))
@@ -138,7 +147,7 @@ later b k a (suc n) lt = by (start_at b a) (λ s e. (started b a s e).0) (later 
 numbers_distinct : (b : Book) (a n : ℕ) → IsDistinct nat_eq (numbers_of (starts_from b a n))
 unfolding IsDistinct
 numbers_distinct b a zero = tt
-numbers_distinct b a (suc n) = by (start_at b a) (λ s e. (started b a s e).0) (numbers_distinct b (a + 1) n)
+numbers_distinct b a (suc n) = by (start_at b a) (λ s e. (started b a s e).number) (numbers_distinct b (a + 1) n)
   where
     by : (o : Option Start) → ((s : Start) → o ≡ Some s → s.number ≡ a) → IsDistinct nat_eq (numbers_of (starts_from b (a + 1) n))
         → IsDistinct nat_eq (numbers_of (cons_option o (starts_from b (a + 1) n)))
@@ -150,7 +159,7 @@ less m n lt = grind (arith, nat_tests)
 
 rising : (b : Book) (k a n : ℕ) → k < a → AllByRecursion (λ y. nat_cmp k y ≡ Less) (numbers_of (starts_from b a n))
 rising b k a zero lt = tt
-rising b k a (suc n) lt = by (start_at b a) (λ s e. (started b a s e).0) (rising b k (a + 1) n (omega arith))
+rising b k a (suc n) lt = by (start_at b a) (λ s e. (started b a s e).number) (rising b k (a + 1) n (omega arith))
   where
     by : (o : Option Start) → ((s : Start) → o ≡ Some s → s.number ≡ a) → AllByRecursion (λ y. nat_cmp k y ≡ Less) (numbers_of (starts_from b (a + 1) n))
         → AllByRecursion (λ y. nat_cmp k y ≡ Less) (numbers_of (cons_option o (starts_from b (a + 1) n)))
@@ -160,7 +169,7 @@ rising b k a (suc n) lt = by (start_at b a) (λ s e. (started b a s e).0) (risin
 numbers_ascend : (b : Book) (a n : ℕ) → AreAscending (starts_from b a n)
 unfolding IsStrictlySortedBy
 numbers_ascend b a zero = tt
-numbers_ascend b a (suc n) = by (start_at b a) (λ s e. (started b a s e).0) (numbers_ascend b (a + 1) n)
+numbers_ascend b a (suc n) = by (start_at b a) (λ s e. (started b a s e).number) (numbers_ascend b (a + 1) n)
   where
     by : (o : Option Start) → ((s : Start) → o ≡ Some s → s.number ≡ a) → AreAscending (starts_from b (a + 1) n) → AreAscending (cons_option o (starts_from b (a + 1) n))
     by None f rec = rec
@@ -176,13 +185,8 @@ only_same : (c : List Literal) (l : Literal) → only_literal c ≡ Some l → s
 only_same [] l e = absurd (let no : ⊥ = cc in no)
 only_same (k ∷ c) l e = by (list_all (same k) c) refl e
   where
-    one : list_all (same k) c ≡ true → same_set (k ∷ []) (k ∷ c) ≡ true
-    one all = and_from _ _
-        (and_from _ _ (In_has (k ∷ []) k (inl refl)) (In_all (has (k ∷ [])) c (λ m i. In_has (k ∷ []) m (inl (same-true k m (all_In (same k) c m all i))))))
-        (and_from _ _ (In_has (k ∷ c) k (inl refl)) refl)
-
     by : (t : Bool) → list_all (same k) c ≡ t → cond t (Some k) None ≡ Some l → same_set (l ∷ []) (k ∷ c) ≡ true
-    by true all q = let same_k : k ≡ l = cc in subst (λ (m : Literal). same_set (m ∷ []) (k ∷ c) ≡ true) same_k (one all)
+    by true all q = let same_k : k ≡ l = cc in subst (λ (m : Literal). same_set (m ∷ []) (k ∷ c) ≡ true) same_k (one_unit k c all)
     by false all q = absurd (let no : ⊥ = cc in no)
 
 unique_In : (xs : List Literal) (l : Literal) → In l (unique_keys same xs) → In l xs

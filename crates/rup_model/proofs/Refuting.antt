@@ -8,7 +8,7 @@ use Rattle.sat_words.specs.Clause.{is_empty}
 use Rattle.sat_words.specs.declared.line.Line.{Line}
 use Rattle.sat_words.specs.declared.line.Line.TheVariants.{Add as AddLine}
 use Rattle.rup_model.specs.declared.journal.Entry.{Entry}
-use Rattle.rup_model.specs.declared.journal.Entry.TheVariants.{Add, Del, Reduce}
+use Rattle.rup_model.specs.declared.journal.Entry.TheVariants.{Add, Del, Reduce, Round}
 use Rattle.rup_model.specs.Log.{Refutes}
 use Rattle.rup_model.specs.Journal.{added, lines, EmptyLast, LogSound}
 use Rattle.rup_model.proofs.Additions.{added-append}
@@ -38,6 +38,7 @@ empty_entry F J (Add x) h = lines_last F J (Add x) ∙ ap (λ c. lines F J ++ Ad
     none (l ∷ c) e = absurd (false≢true e)
 empty_entry F J (Del r n) h = absurd (false≢true h)
 empty_entry F J (Reduce r) h = absurd (false≢true h)
+empty_entry F J (Round x) h = absurd (false≢true h)
 
 ends_by : (F : List (List Literal)) (J : List Entry) → EmptyLast J → list_any is_empty (added J) ≡ true → (before : List Line) × (lines F J ≡ before ++ AddLine [] ∷ [])
 ends_by F [] last some = absurd (false≢true some)

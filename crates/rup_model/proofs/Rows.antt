@@ -1,15 +1,17 @@
 -- Worked journals: what the definitions say of them, by computation.
-use Rattle.std.proofs.Common.{◌≡◌, ℕ, true, false, List, [], ◌∷◌, ◌++◌, refl}
+use Rattle.std.proofs.Common.{◌≡◌, ℕ, true, false, List, [], ◌∷◌, ◌++◌, ap, refl}
 use Rattle.sat_words.specs.Literal.{Literal}
+use Rattle.std.specs.Option.{unwrap_or}
 use Rattle.sat_words.specs.declared.line.Line.TheVariants.{Add as AddLine, Del as DelLine}
 use Rattle.rup_model.specs.Rounds.{Rounds, rounds}
 use Rattle.rup_model.specs.Rup.{rup, conflicts}
 use Rattle.rup_model.specs.Log.{copies, alive, Accepted}
 use Rattle.rup_model.specs.declared.journal.Kind.{Kind}
 use Rattle.rup_model.specs.declared.journal.Kind.TheVariants.{Ruler, Learn}
+use Rattle.rup_model.specs.declared.journal.Round.{Round as RoundStart}
 use Rattle.rup_model.specs.declared.journal.Entry.{Entry}
-use Rattle.rup_model.specs.declared.journal.Entry.TheVariants.{Add, Del, Reduce}
-use Rattle.rup_model.specs.Journal.{lines, learned, recent, fresh, is_told}
+use Rattle.rup_model.specs.declared.journal.Entry.TheVariants.{Add, Del, Reduce, Round}
+use Rattle.rup_model.specs.Journal.{respelled, book, lines, learned, recent, fresh, is_told}
 use Rattle.rup_model.specs.Opening.{program_opening, is_new}
 use Rattle.rup_model.specs.Spent.{ruler_part, rings_part}
 
@@ -83,3 +85,20 @@ rulers_end = refl
 
 rings_begin : rings_part (rulers ++ two_copies) ≡ two_copies
 rings_begin = refl
+
+-- a ring's lemma, deleted by that ring and by the ruler
+abbrev lemma : List Entry
+lemma = adds 0 4 Learn (pos 3 ∷ pos 1 ∷ pos 2 ∷ []) ∷ []
+
+ring_deletes : lines three (lemma ++ Del 0 4 ∷ []) ≡ AddLine (pos 3 ∷ pos 1 ∷ pos 2 ∷ []) ∷ DelLine (pos 3 ∷ pos 1 ∷ pos 2 ∷ []) ∷ []
+ring_deletes = refl
+
+ruler_deletes : lines three (lemma ++ Del 16 4 ∷ []) ≡ AddLine (pos 3 ∷ pos 1 ∷ pos 2 ∷ []) ∷ DelLine (pos 1 ∷ pos 2 ∷ pos 3 ∷ []) ∷ []
+ruler_deletes = refl
+
+-- the ring deletes it after a round began with it, or with another clause
+kept_lemma : (x : RoundStart) → x.starts ≡ 2 ∷ 4 ∷ [] → lines three (lemma ++ Round x ∷ Del 0 4 ∷ []) ≡ AddLine (pos 3 ∷ pos 1 ∷ pos 2 ∷ []) ∷ DelLine (pos 1 ∷ pos 2 ∷ pos 3 ∷ []) ∷ []
+kept_lemma x is = ap (λ (ns : List ℕ). AddLine (pos 3 ∷ pos 1 ∷ pos 2 ∷ []) ∷ DelLine (unwrap_or (respelled ns (book three lemma).clause 4) []) ∷ []) is
+
+other_kept : (x : RoundStart) → x.starts ≡ 2 ∷ [] → lines three (lemma ++ Round x ∷ Del 0 4 ∷ []) ≡ AddLine (pos 3 ∷ pos 1 ∷ pos 2 ∷ []) ∷ DelLine (pos 3 ∷ pos 1 ∷ pos 2 ∷ []) ∷ []
+other_kept x is = ap (λ (ns : List ℕ). AddLine (pos 3 ∷ pos 1 ∷ pos 2 ∷ []) ∷ DelLine (unwrap_or (respelled ns (book three lemma).clause 4) []) ∷ []) is

@@ -9,12 +9,13 @@ use Rattle.sat_words.specs.Clause.{same_set, two_or_more, clause_of}
 use Rattle.sat_words.proofs.Insertion.{same_set-clause_of}
 use Rattle.rup_model.specs.Log.{alive_after}
 use Rattle.rup_model.specs.declared.journal.Entry.{Entry}
-use Rattle.rup_model.specs.declared.journal.Entry.TheVariants.{Add, Del, Reduce}
+use Rattle.rup_model.specs.declared.journal.Entry.TheVariants.{Add, Del, Reduce, Round}
 use Rattle.rup_model.specs.Journal.{Book, formula_book, spelled, book_after, book, lines_after, IsFit, Fits, added, is_told}
 use Rattle.rup_model.proofs.Sums.{put_here, put_else}
 use Rattle.rup_model.proofs.Sequences.{EachState, to_states}
 use Rattle.rup_model.proofs.Covers.{same_chain}
 use Rattle.rup_model.proofs.Units.{unit_short}
+use Rattle.rup_model.proofs.Respelling.{respelled_to}
 use Rattle.rup_model.proofs.Numbers.{spelled_same, Matches, clause_below, formula_matches, matches_step}
 
 -- the unit clause has a number
@@ -49,11 +50,14 @@ unit_step b G (Del r k) l fit m (inl t) = (t.0, t.1, put_else b.clause k None t.
 unit_step b G (Del r k) l fit m (inr h) = absurd (true≢false (sym h))
 unit_step b G (Reduce r) l fit m (inl t) = t
 unit_step b G (Reduce r) l fit m (inr h) = absurd (true≢false (sym h))
+unit_step b G (Round x) l fit m (inl t) = let q = respelled_to x.starts b.clause t.0 t.1 t.2 in (t.0, q.0, q.1, same_chain (l ∷ []) t.1 q.0 t.3 q.2)
+unit_step b G (Round x) l fit m (inr h) = absurd (true≢false (sym h))
 
 added_first : (p : List Literal → Bool) (e : Entry) (J : List Entry) → list_any p (added (e ∷ J)) ≡ true → (list_any p (added (e ∷ [])) ≡ true) ⊎ (list_any p (added J) ≡ true)
 added_first p (Add x) J h = elim (or_cases (p x.lits) (list_any p (added J)) h) as (λ _. (list_any p (x.lits ∷ []) ≡ true) ⊎ (list_any p (added J) ≡ true)) [ inl y ↦ inl (or_left _ _ y) | inr y ↦ inr y ]
 added_first p (Del r n) J h = inr h
 added_first p (Reduce r) J h = inr h
+added_first p (Round x) J h = inr h
 
 unit_from : (b : Book) (J : List Entry) (G : List (List Literal)) (l : Literal) → EachState book_after IsFit b J → Matches b G → HasUnit b l ⊎ (list_any (same_set (l ∷ [])) (added J) ≡ true)
     → HasUnit (fold book_after b J) l

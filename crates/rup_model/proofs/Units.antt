@@ -1,12 +1,13 @@
 -- Clauses with two literals or more, and unit clauses.
 use Rattle.std.proofs.Common.{◌≡◌, ◌≤◌, Bool, true, false, not, ◌&&◌, ◌||◌, List, [], ◌∷◌, length, sym, refl, ap, ◌∙◌, subst, inl, inr, arith}
 use Rattle.std.specs.List.{list_any, list_all}
-use Rattle.std.proofs.lemmas.Bool.{and_parts, true≢false}
+use Rattle.std.proofs.lemmas.Bool.{and_parts, and_from, cases_Bool, true≢false}
 use Rattle.sat_words.specs.Literal.{Literal, same}
 use Rattle.sat_words.specs.Clause.{has, distinct_lits, same_set, just_one, two_or_more}
-use Rattle.sat_words.proofs.Members.{same-refl}
+use Rattle.sat_words.proofs.Members.{same-true, same-refl}
 use Rattle.rup_model.specs.Opening.{IsLong}
-use Rattle.rup_model.proofs.Lists.{In, has_In, In_all, all_In}
+use Rattle.rup_model.proofs.Lists.{In, has_In, In_has, In_all, all_In}
+use Rattle.rup_model.proofs.Covers.{same_back, same_chain}
 
 pub two_more : (c : List Literal) → two_or_more c ≡ true → not (just_one c) ≡ true
 two_more [] h = absurd (true≢false (sym h))
@@ -41,3 +42,18 @@ unit_one l (k ∷ c) s = In_all (same k) c (λ m i. subst (λ (x : Literal). sam
 pub unit_short : (l : Literal) (c : List Literal) → same_set (l ∷ []) c ≡ true → two_or_more c ≡ false
 unit_short l [] s = refl
 unit_short l (k ∷ c) s = ap not (unit_one l (k ∷ c) s)
+
+-- one literal, however often, is a unit
+pub one_unit : (l : Literal) (c : List Literal) → list_all (same l) c ≡ true → same_set (l ∷ []) (l ∷ c) ≡ true
+one_unit l c all = and_from _ _
+    (and_from _ _ (In_has (l ∷ []) l (inl refl)) (In_all (has (l ∷ [])) c (λ m i. In_has (l ∷ []) m (inl (same-true l m (all_In (same l) c m all i))))))
+    (and_from _ _ (In_has (l ∷ c) l (inl refl)) refl)
+
+-- a clause with the literals of one of two or more has two or more
+pub two_same : (c d : List Literal) → same_set c d ≡ true → two_or_more c ≡ true → two_or_more d ≡ true
+two_same [] d s two = absurd (true≢false (sym two))
+two_same (k ∷ c) [] s two = absurd (true≢false (sym (and_parts (list_all (has (k ∷ c)) []) (list_all (has []) (k ∷ c)) s).1))
+two_same (k ∷ c) (l ∷ d) s two = elim (cases_Bool (list_all (same l) d)) as (λ _. two_or_more (l ∷ d) ≡ true) [
+  | inl all ↦ absurd (true≢false (sym two ∙ unit_short l (k ∷ c) (same_chain (l ∷ []) (l ∷ d) (k ∷ c) (one_unit l d all) (same_back (k ∷ c) (l ∷ d) s))))
+  | inr e ↦ ap not e
+]

@@ -10,36 +10,48 @@ use Rattle.rup_model.specs.declared.journal.TheConstants.{RULER_RING, LEARNED_PE
 use Rattle.rup_model.specs.declared.journal.Kind.{Kind}
 use Rattle.rup_model.specs.declared.journal.Kind.TheVariants.{Ruler, Learn, Derive, UnitLine}
 use Rattle.rup_model.specs.declared.journal.Addition.{Addition}
+use Rattle.rup_model.specs.declared.journal.Round.{Round as RoundStart}
 use Rattle.rup_model.specs.declared.journal.Entry.{Entry}
-use Rattle.rup_model.specs.declared.journal.Entry.TheVariants.{Add, Del, Reduce}
+use Rattle.rup_model.specs.declared.journal.Entry.TheVariants.{Add, Del, Reduce, Round}
 use Rattle.rup_model.specs.Basics.{put, EachAfter, below, one_if}
 use Rattle.rup_model.specs.Log.{Accepted}
 
--- How an entry is read; all that follows reads entries through these four
+-- How an entry is read; all that follows reads entries through these five
 
 -- what the entry adds
 abbrev pub addition : Entry → Option Addition
 addition (Add x) = Some x
 addition (Del r n) = None
 addition (Reduce r) = None
+addition (Round x) = None
 
 -- the number that the entry deletes
 abbrev pub deletion : Entry → Option ℕ
 deletion (Add x) = None
 deletion (Del r n) = Some n
 deletion (Reduce r) = None
+deletion (Round x) = None
 
 -- the ring whose clauses are reduced from here on
 abbrev pub reduction : Entry → Option ℕ
 reduction (Add x) = None
 reduction (Del r n) = None
 reduction (Reduce r) = Some r
+reduction (Round x) = None
 
 -- who wrote the entry
 abbrev pub ring_of : Entry → ℕ
 ring_of (Add x) = x.ring
 ring_of (Del r n) = r
 ring_of (Reduce r) = r
+ring_of (Round x) = RULER_RING
+
+-- what the round begins with that the entry begins
+abbrev pub round_of : Entry → Option RoundStart
+round_of (Add x) = None
+round_of (Del r n) = None
+round_of (Reduce r) = None
+round_of (Round x) = Some x
 
 -- Numbers
 
@@ -57,9 +69,13 @@ formula_clause F (suc i) = option_map clause_of (slice_get F i)
 abbrev pub formula_book : List (List Literal) → Book
 formula_book F = record { clause = formula_clause F; next = suc (length F) }
 
--- how a deletion of the addition spells it: the ruler's in the order of `Clause`, a ring's as it was added
+-- how the ring spells a clause: the ruler in the order of `Clause`, the others as it stands
+abbrev pub spelled_by : ℕ → List Literal → List Literal
+spelled_by r c = if r == RULER_RING then clause_of c else c
+
+-- how the one who added it spells the clause
 abbrev pub spelled : Addition → List Literal
-spelled x = if x.ring == RULER_RING then clause_of x.lits else x.lits
+spelled x = spelled_by x.ring x.lits
 
 -- an addition takes the next number
 abbrev pub with_addition : Book → Option Addition → Book
@@ -71,9 +87,18 @@ abbrev pub without_number : Book → Option ℕ → Book
 without_number b None = b
 without_number b (Some n) = record { clause = put b.clause n None; next = b.next }
 
+-- these clauses stand in the order of `Clause` from here on
+abbrev pub respelled : List ℕ → (ℕ → Option (List Literal)) → ℕ → Option (List Literal)
+respelled ns f n = if list_any (λ m. m == n) ns then option_map clause_of (f n) else f n
+
+-- the start clauses of a round are spelled in the order of `Clause` after it
+abbrev pub with_round : Book → Option RoundStart → Book
+with_round b None = b
+with_round b (Some x) = record { clause = respelled x.starts b.clause; next = b.next }
+
 -- after one more entry
 abbrev pub book_after : Book → Entry → Book
-book_after b e = without_number (with_addition b (addition e)) (deletion e)
+book_after b e = with_round (without_number (with_addition b (addition e)) (deletion e)) (round_of e)
 
 -- the clauses that are alive after the journal, by their numbers
 abbrev pub book : List (List Literal) → List Entry → Book
@@ -94,13 +119,13 @@ copies_in c b = below b.next (λ n. copies_at c (b.clause n))
 abbrev pub line_of_addition : Addition → Line
 line_of_addition x = AddLine x.lits
 
--- the line that deletes the clause with this number
-abbrev pub line_of_deletion : Book → ℕ → Line
-line_of_deletion b n = DelLine (unwrap_or (b.clause n) [])
+-- the line of the ring's deletion of the clause with this number
+abbrev pub line_of_deletion : Book → ℕ → ℕ → Line
+line_of_deletion b r n = DelLine (spelled_by r (unwrap_or (b.clause n) []))
 
 -- the line of an entry, if it has one
 abbrev pub lines_after : Book → Entry → List Line
-lines_after b e = option_to_list (option_map line_of_addition (addition e)) ++ option_to_list (option_map (line_of_deletion b) (deletion e))
+lines_after b e = option_to_list (option_map line_of_addition (addition e)) ++ option_to_list (option_map (line_of_deletion b (ring_of e)) (deletion e))
 
 -- the lines of entries, if some clauses are alive
 abbrev pub lines_from : Book → List Entry → List Line

@@ -6,13 +6,13 @@ use Rattle.std.specs.Ordering.{nat_cmp}
 use Rattle.std.specs.Option.{option_and_then}
 use Rattle.std.specs.Set.{unique_keys}
 use Rattle.sat_words.specs.Literal.{Literal, same}
-use Rattle.sat_words.specs.Clause.{has, same_set, distinct_lits, has_opposites, is_empty, just_one, two_or_more}
+use Rattle.sat_words.specs.Clause.{has, same_set, distinct_lits, has_opposites, is_empty, just_one, two_or_more, clause_of}
 use Rattle.rup_model.specs.declared.journal.TheConstants.{RULER_RING}
 use Rattle.rup_model.specs.declared.journal.Kind.{Kind}
 use Rattle.rup_model.specs.declared.journal.Kind.TheVariants.{Ruler, Learn, Derive, UnitLine}
 use Rattle.rup_model.specs.declared.journal.Entry.{Entry}
 use Rattle.rup_model.specs.Log.{Accepted}
-use Rattle.rup_model.specs.Journal.{addition, reduction, ring_of, Book, book, lines, Fits, additions, added, is_told, is_learn, fresh}
+use Rattle.rup_model.specs.Journal.{addition, reduction, ring_of, round_of, Book, book, lines, Fits, additions, added, is_told, is_learn, fresh}
 
 -- The ruler's part
 
@@ -23,9 +23,9 @@ is_ruler Learn = false
 is_ruler Derive = false
 is_ruler UnitLine = false
 
--- the entry is the ruler's: an addition of its kind, or a deletion
+-- the entry is the ruler's: an addition of its kind, or a deletion, and no round begins
 abbrev pub is_rulers : Entry → Bool
-is_rulers e = (ring_of e == RULER_RING) && (list_all (λ x. is_ruler x.kind) (additions (e ∷ [])) && is_none (reduction e))
+is_rulers e = (ring_of e == RULER_RING) && (list_all (λ x. is_ruler x.kind) (additions (e ∷ [])) && (is_none (reduction e) && is_none (round_of e)))
 
 -- a journal that the ruler may leave
 pub record IsRulersPart (F : List (List Literal)) (J0 : List Entry) : Type 0 where
@@ -88,9 +88,9 @@ pub record OpensAfter (F : List (List Literal)) (o : Opening) : Type 0 where
 
 -- The program's opening
 
--- the clause under this number, if it has two literals or more and no opposites
+-- the clause under this number in the order of `Clause`, if it has two literals or more and no opposites
 abbrev pub start_at : Book → ℕ → Option Start
-start_at b n = option_and_then (λ c. if two_or_more c && not (has_opposites c) then Some (record { number = n; lits = c }) else None) (b.clause n)
+start_at b n = option_and_then (λ c. if two_or_more c && not (has_opposites c) then Some (record { number = n; lits = clause_of c }) else None) (b.clause n)
 
 -- the literal of a clause that has just one
 abbrev pub only_literal : List Literal → Option Literal

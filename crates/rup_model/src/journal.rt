@@ -1,4 +1,8 @@
+ghost use Rattle.std.specs.Prelude.{◌≡◌, IfOk};
+
 use sat_words::Lits;
+use std::alloc::{AllocError, Global};
+use std::marker::Model;
 
 /// The ring under which the ruler writes; the rings that search are below it.
 pub const RULER_RING: u32 = 16;
@@ -32,7 +36,48 @@ pub struct Addition {
     pub kind: Kind,
 }
 
-/// An entry of the journal: what one ring, or the ruler, wrote into the log.
+/// The numbers of start clauses, in the order given.
+#[derive(Drop)]
+pub struct StartNumbers {
+    items: Vec<u64>,
+}
+
+impl Model for StartNumbers {
+    ghost use Rattle.std.specs.Prelude.{ℕ, List};
+
+    ghost Value = { List ℕ };
+
+    ghost view = { λ numbers. numbers.items.items };
+}
+
+impl StartNumbers {
+    /// A copy of the numbers.
+    pub fn from_slice(alloc: Global, numbers: &[u64]) -> Result<StartNumbers, AllocError>
+        ensures { IfOk result (λ copy. copy ≡ numbers.now) }
+    {
+        Ok(StartNumbers {
+            items: Vec::from_slice(alloc, numbers)?,
+        })
+    }
+
+    /// The numbers, in their order.
+    pub fn as_slice(&self) -> &[u64]
+        ensures { result.now ≡ self.now }
+    {
+        self.items.as_slice()
+    }
+}
+
+/// What a round of the rings begins with.
+#[derive(Drop)]
+pub struct Round {
+    /// The numbers of the start clauses, in order.
+    pub starts: StartNumbers,
+    /// The units that are listed from the start.
+    pub units: Lits,
+}
+
+/// An entry of the journal: what one ring, or the ruler, wrote into the log, or that a round of the rings begins.
 #[derive(Drop)]
 pub enum Entry {
     /// Adds a clause.
@@ -49,4 +94,6 @@ pub enum Entry {
         /// Whose clauses are reduced.
         ring: u32,
     },
+    /// Begins a round of the rings; the log has no line for it.
+    Round(Round),
 }

@@ -8,8 +8,9 @@ ghost use Rattle.rup_model.specs.Rup.{rup};
 ghost use Rattle.rup_model.specs.Log.{alive, copies, is_valid, Refutes};
 ghost use Rattle.rup_model.specs.declared.journal.TheConstants.{RULER_RING};
 ghost use Rattle.rup_model.specs.declared.journal.Addition.{Addition};
+ghost use Rattle.rup_model.specs.declared.journal.Round.{Round as RoundStart};
 ghost use Rattle.rup_model.specs.declared.journal.Entry.{Entry};
-ghost use Rattle.rup_model.specs.declared.journal.Entry.TheVariants.{Add, Del, Reduce};
+ghost use Rattle.rup_model.specs.declared.journal.Entry.TheVariants.{Add, Del, Reduce, Round};
 ghost use Rattle.rup_model.specs.Journal.{book, copies_in, lines, Fits, added, is_told, LogSound, ring_of};
 ghost use Rattle.rup_model.specs.Opening.{is_rulers, IsRulersPart, IsOpening, program_opening};
 ghost use Rattle.rup_model.specs.Spent.{ruler_part, rings_part};
@@ -32,6 +33,11 @@ pub fn a_deletion_keeps_the_log()
 /// While no entry adds the empty clause, the note that a ring reduces keeps the log sound.
 pub fn a_reduction_keeps_the_log()
     ensures { (F : List (List Literal)) (J : List Entry) (r : ℕ) → LogSound F J → list_any is_empty (added J) ≡ false → LogSound F (J ++ Reduce r ∷ []) }
+{}
+
+/// While no entry adds the empty clause, an entry that begins a round keeps the log sound.
+pub fn a_round_keeps_the_log()
+    ensures { (F : List (List Literal)) (J : List Entry) (x : RoundStart) → LogSound F J → list_any is_empty (added J) ≡ false → LogSound F (J ++ Round x ∷ []) }
 {}
 
 /// A sound log to which the empty clause was added refutes the formula.

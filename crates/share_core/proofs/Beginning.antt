@@ -1,18 +1,21 @@
 -- A new core shows its opening.
-use Rattle.std.proofs.Common.{◌≡◌, ℕ, zero, suc, ◌*◌, ◌<◌, ◌≤◌, cond, List, [], ◌∷◌, length, map, replicate, get_or, Option, Some, None, refl, sym, ap, ◌∙◌, subst, arith, eq-eqb, ne_eqb}
+use Rattle.std.proofs.Common.{◌≡◌, ℕ, zero, suc, ◌*◌, ◌<◌, ◌≤◌, false, cond, List, [], ◌∷◌, length, map, replicate, get_or, Option, Some, None, refl, sym, ap, ◌∙◌, subst, arith, eq-eqb, ne_eqb}
 use Rattle.std.specs.List.{slice_get}
+use Rattle.std.proofs.lemmas.List.{drop_all}
 use Rattle.std.specs.Option.{option_map, unwrap_or}
 use mathlib.Core.Logic.{dite}
 use native.Mathlib.Decide.{ℕ_discrete}
 use Rattle.sat_words.specs.Literal.{Literal}
 use Rattle.sat_words.specs.Clause.{InOrder, clause_of}
 use Rattle.sat_words.proofs.Insertion.{clause_of_in_order}
-use Rattle.rup_model.specs.Journal.{formula_clause}
+use Rattle.sat_words.specs.declared.line.Line.{Line}
+use Rattle.rup_model.specs.declared.journal.Entry.{Entry}
+use Rattle.rup_model.specs.Journal.{formula_clause, lines}
 use Rattle.share_core.specs.declared.stored.ClauseAt.{ClauseAt}
 use Rattle.share_core.specs.declared.ring.RingState.{RingState}
-use Rattle.share_core.specs.State.{CoreOpening, IsCoreOpening, start_cell, opened}
-use Rattle.share_core.specs.Sound.{Sound}
-use Rattle.share_core.specs.Machine.{CoreData, state_of, Logged, Kept, cell_in, no_ring, part_of, start_stored}
+use Rattle.share_core.specs.State.{CoreOpening, IsCoreOpening, start_cell, blank, opened}
+use Rattle.share_core.specs.Sound.{placed, Sound}
+use Rattle.share_core.specs.Machine.{CoreData, state_of, Logged, Kept, cell_in, no_ring, ring_in, part_of, start_stored}
 use Rattle.share_core.proofs.Lookups.{states_same}
 use Rattle.share_core.proofs.Opened.{opened_sound}
 
@@ -54,15 +57,16 @@ count_all : {X : Type 0} (n : ℕ) (x : X) → length (replicate n x) ≡ n
 count_all zero x = refl
 count_all (suc n) x = let r = count_all n x in omega arith
 
-abbrev pub new_data : CoreOpening → CoreData
-new_data o = record {
+abbrev pub new_data : CoreOpening → List Line → CoreData
+new_data o L = record {
   formula = o.formula;
+  before = o.journal;
   starts = o.starts;
   first = o.units;
   depth = o.depth;
   limit = o.limit;
-  journal = [];
-  lines = [];
+  journal = o.journal;
+  lines = L;
   cells = map (start_stored o.rings) o.starts;
   rings = replicate o.rings no_ring;
   slots = replicate (4 * (o.rings * o.rings) * o.depth) 0;
@@ -72,14 +76,18 @@ new_data o = record {
   drawn = 0;
 }
 
-pub new_shown : (o : CoreOpening) (d : CoreData) → o.journal ≡ [] → d ≡ new_data o → state_of d ≡ opened o
-new_shown o d none is = ap state_of is ∙ states_same (state_of (new_data o)) (opened o)
-    (let e = count_all o.rings no_ring in λ i. record { formula = o.formula; rings = e i; depth = o.depth; journal = sym none i; starts = o.starts; units = o.units; limit = o.limit })
-    (sym none) (cells_open o.rings o.starts) (λ r. ap (λ (x : RingState). x.granted) (same_all o.rings no_ring r)) (λ r. ap (part_of r []) (same_all o.rings no_ring r)) (λ k. same_all (4 * (o.rings * o.rings) * o.depth) 0 k) refl refl refl refl
+ring_open : (n : ℕ) (J : List Entry) (k r : ℕ) → length J ≤ n → part_of r n J (ring_in (replicate k no_ring) r) ≡ blank r
+ring_open n J k r le = ap (part_of r n J) (same_all k no_ring r)
+    ∙ (let e = drop_all n J le in λ j. record { ring = r; held = []; making = []; waiting = []; seen = []; shared = 0; wrote = placed r n (e j); puts = []; ticket = false; found = 0 })
 
-pub new_kept : (o : CoreOpening) (d : CoreData) → IsCoreOpening o → o.journal ≡ [] → d ≡ new_data o → Kept d
-new_kept o d op none is = record {
+pub new_shown : (o : CoreOpening) (L : List Line) (d : CoreData) → d ≡ new_data o L → state_of d ≡ opened o
+new_shown o L d is = ap state_of is ∙ states_same (state_of (new_data o L)) (opened o)
+    (let e = count_all o.rings no_ring in λ i. record { formula = o.formula; rings = e i; depth = o.depth; journal = o.journal; starts = o.starts; units = o.units; limit = o.limit })
+    refl (cells_open o.rings o.starts) (λ r. ap (λ (x : RingState). x.granted) (same_all o.rings no_ring r)) (λ r. ring_open (length o.journal) o.journal o.rings r (omega arith)) (λ k. same_all (4 * (o.rings * o.rings) * o.depth) 0 k) refl refl refl refl
+
+pub new_kept : (o : CoreOpening) (L : List Line) (d : CoreData) → IsCoreOpening o → L ≡ lines o.formula o.journal → d ≡ new_data o L → Kept d
+new_kept o L d op told is = record {
   wide = ap (λ (x : CoreData). length x.slots) is ∙ count_all (4 * (o.rings * o.rings) * o.depth) 0 ∙ (let e = count_all o.rings no_ring in λ j. 4 * (sym e j * sym e j) * o.depth) ∙ ap (λ (x : CoreData). 4 * (length x.rings * length x.rings) * x.depth) (sym is);
-  sound = subst Sound (sym (new_shown o d none is)) (opened_sound o op);
-  logged = subst Logged (sym is) refl;
+  sound = subst Sound (sym (new_shown o L d is)) (opened_sound o op);
+  logged = subst Logged (sym is) told;
 }

@@ -3,14 +3,13 @@ use Rattle.std.proofs.Common.{◌≡◌, ◌≢◌, ◌⊎◌, ℕ, ◌+◌, ◌
 use Rattle.rup_model.specs.declared.journal.Entry.TheVariants.{Del}
 use Rattle.rup_model.specs.Basics.{put, one_if}
 use Rattle.rup_model.specs.Journal.{Book, book_after, book}
-use Rattle.rup_model.specs.Opening.{start_clauses}
 use Rattle.rup_model.proofs.Sums.{at_put, put_else, below_at}
 use Rattle.rup_model.proofs.Units.{long_two}
 use Rattle.rup_model.proofs.Numbers.{book_last}
 use Rattle.rup_model.proofs.JournalSteps.{not_added, log_dels}
 use Rattle.share_core.specs.declared.event.Event.TheVariants.{Bury}
 use Rattle.share_core.specs.declared.stored.Cell.{Cell}
-use Rattle.share_core.specs.State.{times_at, without_at, opening_of, Part, State, count_at, number_at, maker_at}
+use Rattle.share_core.specs.State.{times_at, without_at, Part, State, count_at, number_at, maker_at}
 use Rattle.share_core.specs.Enabled.{IsEnabled}
 use Rattle.share_core.specs.Events.{buried_part, after}
 use Rattle.share_core.specs.Sound.{reach, counted, idle_at, IsCopy, CellsSound, Sound}

@@ -28,3 +28,5 @@ pub mod Shown
 pub mod Lookups
 pub mod Stepping
 pub mod Beginning
+pub mod Rounding
+pub mod RoundFitting

@@ -1,26 +1,22 @@
 -- An opening is sound, and so is what enabled events leave.
 use Rattle.std.proofs.Common.{◌≡◌, ◌≢◌, ℕ, ◌+◌, ◌*◌, ◌≤◌, ◌==◌, nat_eq, Bool, true, false, ◌||◌, cond, List, [], ◌∷◌, ◌++◌, map, length, fold, All, Option, Some, None, refl, sym, ap, ◌∙◌, subst, inl, inr, ⊎_elim, arith, eq-eqb, ne_eqb, true≢false, append-nil, append_assoc}
 use Rattle.std.specs.List.{list_any, AllByRecursion, Contains, IsDistinct}
-use Rattle.std.proofs.lemmas.Bool.{and_parts}
 use Rattle.std.proofs.lemmas.List.{drop_all}
 use Rattle.std.proofs.lemmas.List.Folds.{list_any-append}
 use mathlib.Core.Logic.{dite}
 use native.Mathlib.Decide.{ℕ_discrete}
 use Rattle.sat_words.specs.Literal.{Literal}
 use Rattle.sat_words.specs.Clause.{is_empty}
-use Rattle.rup_model.specs.declared.journal.TheConstants.{RULER_RING}
 use Rattle.rup_model.specs.declared.journal.Entry.{Entry}
-use Rattle.rup_model.specs.declared.journal.Entry.TheVariants.{Add, Del, Reduce}
 use Rattle.rup_model.specs.Basics.{EachAfter, one_if}
 use Rattle.rup_model.specs.Journal.{Book, book, lines, added, is_told, IsFresh, IsSpaced}
-use Rattle.rup_model.specs.Opening.{is_rulers, Start, IsLong, IsStart, start_clauses}
+use Rattle.rup_model.specs.Opening.{Start, IsLong, IsStart, start_clauses}
 use Rattle.rup_model.proofs.Lists.{In, In_map, map_In, has_In, Contains_In}
 use Rattle.rup_model.specs.Log.{alive as alive_lines}
 use Rattle.rup_model.proofs.Numbers.{clause_below, journal_matches}
 use Rattle.rup_model.proofs.Sums.{below_all}
 use Rattle.rup_model.proofs.Sequences.{EachState, to_states}
 use Rattle.rup_model.proofs.Additions.{added-append}
-use Rattle.rup_model.proofs.Parts.{rulers_each, rulers_kind}
 use Rattle.share_core.specs.declared.event.Event.{Event}
 use Rattle.share_core.specs.declared.event.Stop.{Stop}
 use Rattle.share_core.specs.declared.stored.ClauseAt.{ClauseAt}

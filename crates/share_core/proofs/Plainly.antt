@@ -1,50 +1,80 @@
 -- What a sound state says, in plain words; what a ring's own entries say of what it learned.
-use Rattle.std.proofs.Common.{◌≡◌, ◌≢◌, ◌⊎◌, ℕ, ◌+◌, ◌<◌, ◌==◌, Bool, true, false, cond, ◌&&◌, List, [], ◌∷◌, ◌++◌, length, map, fold, Some, None, refl, sym, ap, ◌∙◌, inl, inr, ⊎_elim, arith, eq-eqb, ne_eqb, length-append, append-nil}
+use Rattle.std.proofs.Common.{◌≡◌, ◌≢◌, ◌⊎◌, ℕ, ◌+◌, ◌<◌, ◌==◌, Bool, true, false, cond, ◌&&◌, List, [], ◌∷◌, ◌++◌, length, map, fold, Some, None, refl, sym, ap, ◌∙◌, subst, inl, inr, ⊎_elim, arith, eq-eqb, ne_eqb, length-append, append-nil}
 use Rattle.std.specs.List.{list_any}
-use Rattle.std.proofs.lemmas.List.Sums.{fold-append}
-use Rattle.std.proofs.lemmas.Bool.{or_from}
+use Rattle.std.proofs.lemmas.Bool.{or_from, or_left, or_right}
 use mathlib.Core.Logic.{dite}
 use native.Mathlib.Decide.{ℕ_discrete}
 use Rattle.sat_words.specs.Literal.{Literal}
+use Rattle.sat_words.specs.Clause.{clause_of}
+use Rattle.sat_words.proofs.Insertion.{InOrder-clause_of, clause_of_in_order}
 use Rattle.rup_model.specs.declared.journal.Addition.{Addition}
+use Rattle.rup_model.specs.declared.journal.Round.{Round as RoundStart}
 use Rattle.rup_model.specs.declared.journal.Entry.{Entry}
-use Rattle.rup_model.specs.declared.journal.Entry.TheVariants.{Add, Del, Reduce}
-use Rattle.rup_model.specs.Basics.{put, one_if}
+use Rattle.rup_model.specs.declared.journal.Entry.TheVariants.{Add, Del, Reduce, Round}
+use Rattle.rup_model.specs.Basics.{one_if}
 use Rattle.rup_model.specs.Journal.{additions, deletion, Book, formula_book, spelled, book_after, book, IsFit, Fits, ring_of, is_learn, learned, is_ring, recent_after, recent}
 use Rattle.rup_model.proofs.Lists.{In, In_Contains}
 use Rattle.rup_model.proofs.Additions.{learned-append}
 use Rattle.std.proofs.lemmas.List.{drop_all, drop-append-le}
 use Rattle.rup_model.proofs.Sums.{at_put, put_else}
 use Rattle.rup_model.proofs.Sequences.{EachState, to_states}
+use Rattle.rup_model.proofs.Respelling.{respelled_from, respelled_none}
+use Rattle.rup_model.proofs.ProgramOpening.{formula_ordered}
 use Rattle.rup_model.proofs.Numbers.{Matches, clause_below, matches_step, formula_matches}
 use Rattle.share_core.specs.declared.stored.Cell.{Cell}
 use Rattle.share_core.specs.State.{Placed, later, State, count_at, maker_at}
 use Rattle.share_core.specs.Sound.{idle_at, placed, Sound}
-use Rattle.share_core.specs.Readable.{Stands, Plain}
+use Rattle.share_core.specs.Readable.{IsSpelled, Stands, Plain}
 use Rattle.share_core.proofs.Counting.{none_some, some_same, made_by, idle_open, idle_made, held_cell, waiting_cell, slot_cell}
 
 -- Numbers that stand
 
 -- some addition among the entries
 InAdded : List Entry → ℕ → List Literal → Type 0
-InAdded J n c = (x : Addition) × In x (additions J) × (x.number ≡ n) × (spelled x ≡ c)
+InAdded J n c = (x : Addition) × In x (additions J) × (x.number ≡ n) × IsSpelled J n (spelled x) c
+
+-- the clause under the number, before the entries
+WasThere : Book → List Entry → ℕ → List Literal → Type 0
+WasThere b J n c = (d : List Literal) × (b.clause n ≡ Some d) × IsSpelled J n d c
+
+-- after one entry more before the others
+spelled_more : (e : Entry) (J : List Entry) (n : ℕ) (c d : List Literal) → IsSpelled J n c d → IsSpelled (e ∷ J) n c d
+spelled_more e J n c d (inl same) = inl same
+spelled_more e J n c d (inr h) = inr (or_right _ _ h.0, h.1)
+
+added_more : (e : Entry) (J : List Entry) (n : ℕ) (c : List Literal) → additions J ≡ additions (e ∷ J) → InAdded J n c → InAdded (e ∷ J) n c
+unfolding InAdded
+added_more e J n c same h = (h.0, subst (In h.0) same h.1, h.2, spelled_more e J n (spelled h.0) c h.3)
+
+-- a round of the entries spells it once
+spelled_once : (x : RoundStart) (J : List Entry) (n : ℕ) (c d e : List Literal) → list_any (λ m. m == n) x.starts ≡ true → clause_of c ≡ d → IsSpelled J n d e → IsSpelled (Round x ∷ J) n c e
+spelled_once x J n c d e names ordered (inl same) = inr (or_left _ _ names, ordered ∙ same)
+spelled_once x J n c d e names ordered (inr h) = inr (or_left _ _ names, sym (clause_of_in_order (clause_of c) (InOrder-clause_of c)) ∙ ap clause_of ordered ∙ h.1)
+
+was_there : (b : Book) (x : RoundStart) (J : List Entry) (n : ℕ) (c : List Literal) → WasThere (book_after b (Round x)) J n c → WasThere b (Round x ∷ J) n c
+unfolding WasThere
+was_there b x J n c h = ⊎_elim
+    (λ (is : b.clause n ≡ Some h.0). (h.0, is, spelled_more (Round x) J n h.0 c h.2))
+    (λ (t : (list_any (λ m. m == n) x.starts ≡ true) × (d : List Literal) × (b.clause n ≡ Some d) × (clause_of d ≡ h.0)). (t.1, t.2, spelled_once x J n t.1 h.0 c t.0 t.3 h.2))
+    (respelled_from x.starts b.clause n h.0 h.1)
 
 dead_from : (b : Book) (J : List Entry) (G : List (List Literal)) (n : ℕ) → EachState book_after IsFit b J → Matches b G → b.clause n ≡ None → n < b.next → (fold book_after b J).clause n ≡ None
 dead_from b [] G n h m dead lt = dead
 dead_from b (Add x ∷ J) G n h m dead lt = dead_from (book_after b (Add x)) J _ n h.1 (matches_step b G (Add x) h.0 m) (put_else b.clause b.next _ n (λ e. omega arith) ∙ dead) (omega arith)
 dead_from b (Del r k ∷ J) G n h m dead lt = dead_from (book_after b (Del r k)) J _ n h.1 (matches_step b G (Del r k) h.0 m) (at_put b.clause k None (λ q. q ≡ None) n (λ _. refl) (λ _. dead)) lt
 dead_from b (Reduce r ∷ J) G n h m dead lt = dead_from b J _ n h.1 (matches_step b G (Reduce r) h.0 m) dead lt
+dead_from b (Round x ∷ J) G n h m dead lt = dead_from (book_after b (Round x)) J _ n h.1 (matches_step b G (Round x) h.0 m) (respelled_none x.starts b.clause n dead) lt
 
 stands_from : (b : Book) (J : List Entry) (G : List (List Literal)) (n : ℕ) (c : List Literal) → EachState book_after IsFit b J → Matches b G → (fold book_after b J).clause n ≡ Some c
-    → ((b.clause n ≡ Some c) ⊎ InAdded J n c) × (list_any (λ e. is_ring n (deletion e)) J ≡ false)
-unfolding InAdded
-stands_from b [] G n c h m is = (inl is, refl)
+    → (WasThere b J n c ⊎ InAdded J n c) × (list_any (λ e. is_ring n (deletion e)) J ≡ false)
+unfolding InAdded WasThere
+stands_from b [] G n c h m is = (inl (c, is, inl refl), refl)
 stands_from b (Add x ∷ J) G n c h m is =
     let r = stands_from (book_after b (Add x)) J _ n c h.1 (matches_step b G (Add x) h.0 m) is in (
       ⊎_elim
-          (λ (k : put b.clause b.next (Some (spelled x)) n ≡ Some c). at_put b.clause b.next (Some (spelled x)) (λ q. q ≡ Some c → ((b.clause n ≡ Some c) ⊎ InAdded (Add x ∷ J) n c)) n
-          (λ e q. inr (x, inl refl, h.0.numbered ∙ sym e, some_same (spelled x) c q))
-          (λ ne q. inl q) k)
+          (λ (k : WasThere (book_after b (Add x)) J n c). at_put b.clause b.next (Some (spelled x)) (λ q. q ≡ Some k.0 → WasThere b (Add x ∷ J) n c ⊎ InAdded (Add x ∷ J) n c) n
+          (λ e q. inr (x, inl refl, h.0.numbered ∙ sym e, subst (λ (d : List Literal). IsSpelled J n d c) (sym (some_same (spelled x) k.0 q)) k.2))
+          (λ ne q. inl (k.0, q, k.2)) k.1)
           (λ (k : InAdded J n c). inr (k.0, inr k.1, k.2, k.3)) r.0,
       r.1,
     )
@@ -54,16 +84,23 @@ stands_from b (Del r k ∷ J) G n c h m is =
     let t = stands_from (book_after b (Del r k)) J _ n c h.1 m' is in
     dite (ℕ_discrete k n)
     (λ e. absurd (none_some c (sym (dead_from (book_after b (Del r k)) J _ n h.1 m' (at_put b.clause k None (λ q. q ≡ None) n (λ _. refl) (λ ne. absurd (ne (sym e)))) (omega arith)) ∙ is)))
-    (λ ne. (⊎_elim (λ (q : put b.clause k None n ≡ Some c). inl (sym (put_else b.clause k None n (λ e. ne (sym e))) ∙ q)) (λ (q : InAdded J n c). inr q) t.0, or_from _ _ (ne_eqb k n ne) t.1))
+    (λ ne. (⊎_elim (λ (q : WasThere (book_after b (Del r k)) J n c). inl (q.0, sym (put_else b.clause k None n (λ e. ne (sym e))) ∙ q.1, q.2)) (λ (q : InAdded J n c). inr q) t.0, or_from _ _ (ne_eqb k n ne) t.1))
 stands_from b (Reduce r ∷ J) G n c h m is =
     let t = stands_from b J _ n c h.1 (matches_step b G (Reduce r) h.0 m) is in
-    (⊎_elim (λ (q : b.clause n ≡ Some c). inl q) (λ (q : InAdded J n c). inr q) t.0, t.1)
+    (⊎_elim (λ (q : WasThere b J n c). inl q) (λ (q : InAdded J n c). inr q) t.0, t.1)
+stands_from b (Round x ∷ J) G n c h m is =
+    let t = stands_from (book_after b (Round x)) J _ n c h.1 (matches_step b G (Round x) h.0 m) is in
+    (⊎_elim (λ (q : WasThere (book_after b (Round x)) J n c). inl (was_there b x J n c q)) (λ (q : InAdded J n c). inr (added_more (Round x) J n c refl q)) t.0, t.1)
 
 pub book_stands : (F : List (List Literal)) (J : List Entry) (n : ℕ) (c : List Literal) → Fits F J → (book F J).clause n ≡ Some c → Stands F J n c
-unfolding InAdded
+unfolding InAdded WasThere
 book_stands F J n c h is =
     let t = stands_from (formula_book F) J F n c (to_states book_after IsFit (formula_book F) [] J h) (formula_matches F) is in
-    (⊎_elim (λ (q : (formula_book F).clause n ≡ Some c). inl q) (λ (q : InAdded J n c). inr (q.0, In_Contains (additions J) q.0 q.1, q.2, q.3)) t.0, t.1)
+    (⊎_elim (λ (q : WasThere (formula_book F) J n c). inl (q.1 ∙ ap (λ (d : List Literal). Some d) (given q.0 q.1 q.2))) (λ (q : InAdded J n c). inr (q.0, In_Contains (additions J) q.0 q.1, q.2, q.3)) t.0, t.1)
+  where
+    given : (d : List Literal) → (formula_book F).clause n ≡ Some d → IsSpelled J n d c → d ≡ c
+    given d is (inl same) = same
+    given d is (inr h) = sym (clause_of_in_order d (formula_ordered F n d is)) ∙ h.1
 
 pub sound_plain : (c : State) → Sound c → Plain c
 sound_plain c s = record {
@@ -98,11 +135,13 @@ other_entry r (Add x) cs h = by ((x.ring == r) && is_learn x.kind) (λ j. h j &&
     by b q = ap (λ (t : Bool). cs ++ map (λ (y : Addition). y.lits) (cond t (x ∷ []) [])) q ∙ append-nil cs
 other_entry r (Del q n) cs h = append-nil cs
 other_entry r (Reduce q) cs h = (λ j. cond (h j) [] (cs ++ [])) ∙ append-nil cs
+other_entry r (Round x) cs h = append-nil cs
 
 learned_else : (r : ℕ) (e : Entry) → (ring_of e == r) ≡ false → learned r (e ∷ []) ≡ []
 learned_else r (Add x) h = other_entry r (Add x) [] h
 learned_else r (Del q n) h = refl
 learned_else r (Reduce q) h = refl
+learned_else r (Round x) h = refl
 
 pub learned_own : (r i : ℕ) (J : List Entry) → learned r J ≡ learned r (map (λ (p : Placed). p.entry) (placed r i J))
 learned_own r i [] = refl

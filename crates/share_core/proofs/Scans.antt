@@ -6,7 +6,7 @@ use Rattle.std.proofs.lemmas.List.Folds.{list_any-append}
 use Rattle.sat_words.specs.Literal.{Literal, same}
 use Rattle.sat_words.specs.Clause.{has, is_empty, same_set, includes}
 use Rattle.rup_model.specs.declared.journal.Entry.{Entry}
-use Rattle.rup_model.specs.declared.journal.Entry.TheVariants.{Add, Del, Reduce}
+use Rattle.rup_model.specs.declared.journal.Entry.TheVariants.{Add, Del, Reduce, Round}
 use Rattle.rup_model.specs.Journal.{added, additions, Book, formula_book, book_after, book, ended, is_told, recent_after, recent, fresh}
 use Rattle.rup_model.proofs.Sequences.{fold_last}
 use Rattle.rup_model.specs.Opening.{Start, start_clauses}
@@ -27,6 +27,7 @@ any_added p [] = refl
 any_added p (Add x ∷ J) = (λ j. sym (or_false (p x.lits)) j || any_added p J j)
 any_added p (Del r n ∷ J) = any_added p J
 any_added p (Reduce r ∷ J) = any_added p J
+any_added p (Round x ∷ J) = any_added p J
 
 pub given_or_added : (p : List Literal → Bool) (F : List (List Literal)) (J : List Entry) → list_any p (F ++ added J) ≡ (list_any p F || list_any (adds p) J)
 given_or_added p F J = list_any-append p F (added J) ∙ ap (λ (b : Bool). list_any p F || b) (any_added p J)
@@ -57,6 +58,7 @@ one_more : (b : Book) (e : Entry) → (book_after b e).next ≡ b.next + length 
 one_more b (Add x) = omega arith
 one_more b (Del r n) = omega arith
 one_more b (Reduce r) = omega arith
+one_more b (Round x) = omega arith
 
 -- the next number is one more than there are clauses and additions
 pub next_few : (F : List (List Literal)) (J : List Entry) → (book F J).next ≤ suc (length F) + length J
@@ -67,6 +69,7 @@ next_few F J = from (formula_book F) J
     from b (Add x ∷ K) = let r = from (book_after b (Add x)) K in omega arith
     from b (Del q n ∷ K) = let r = from (book_after b (Del q n)) K in omega arith
     from b (Reduce q ∷ K) = let r = from (book_after b (Reduce q)) K in omega arith
+    from b (Round x ∷ K) = let r = from (book_after b (Round x)) K in omega arith
 
 -- what may be learned includes neither a start clause nor what the ring learned
 pub learn_parts : (o : CoreOpening) (J : List Entry) (p : Part) (r : ℕ) (lits : List Literal) → fresh (start_clauses (opening_of o)) (later o J) r lits ≡ not (list_any (λ (h : ClauseAt). includes lits h.lits) o.starts || list_any (includes lits) (recent r (later o J)))

@@ -1,5 +1,6 @@
 -- What the lists of a core show after a change.
-use Rattle.std.proofs.Common.{◌≡◌, ◌≢◌, ℕ, ◌+◌, ◌*◌, ◌^◌, ◌<◌, cond, List, [], ◌∷◌, ◌++◌, length, Option, Some, sym, ap, ◌∙◌, arith, eq-eqb, ne_eqb, append-nil}
+use Rattle.std.proofs.Common.{◌≡◌, ◌≢◌, ℕ, ◌+◌, ◌*◌, ◌^◌, ◌<◌, ◌≤◌, cond, List, [], ◌∷◌, ◌++◌, length, drop, Option, Some, sym, ap, ◌∙◌, arith, eq-eqb, ne_eqb, append-nil, length-append}
+use Rattle.std.proofs.lemmas.List.{drop-append-le, length-drop}
 use Rattle.std.specs.Option.{unwrap_or}
 use Rattle.sat_words.specs.Literal.{Literal}
 use Rattle.sat_words.specs.declared.line.Line.{Line}
@@ -7,8 +8,9 @@ use Rattle.sat_words.specs.declared.line.Line.TheVariants.{Add as AddLine, Del a
 use Rattle.rup_model.specs.declared.journal.Addition.{Addition}
 use Rattle.rup_model.specs.declared.journal.Entry.{Entry}
 use Rattle.rup_model.specs.declared.journal.Entry.TheVariants.{Add, Del, Reduce}
-use Rattle.rup_model.specs.Journal.{ring_of, book, lines}
+use Rattle.rup_model.specs.Journal.{ring_of, spelled_by, book, lines}
 use Rattle.rup_model.proofs.Sums.{below_most}
+use Rattle.rup_model.proofs.Respelling.{ring_spells}
 use Rattle.rup_model.proofs.Numbers.{lines_last}
 use Rattle.share_core.specs.declared.stored.Cell.{Cell}
 use Rattle.share_core.specs.State.{times_at, count_at, number_at, lits_at, slot_of}
@@ -18,15 +20,22 @@ use Rattle.share_core.proofs.Counting.{held_counted, waiting_cell, slot_below}
 use Rattle.share_core.proofs.Own.{placed_last}
 use Rattle.share_core.proofs.Tickets.{few_drawn}
 
-pub placed_here : (r : ℕ) (J : List Entry) (e : Entry) → ring_of e ≡ r → placed r 0 (J ++ e ∷ []) ≡ placed r 0 J ++ record { place = length J; entry = e } ∷ []
-placed_here r J e is = placed_last r 0 J e
-    ∙ (λ j. placed r 0 J ++ cond (eq-eqb (ring_of e) r is j) (record { place = 0 + length J; entry = e } ∷ []) [])
-    ∙ (let z : 0 + length J ≡ length J = omega arith in λ j. placed r 0 J ++ record { place = z j; entry = e } ∷ [])
+-- one more entry, after the first n
+placed_after : (r n : ℕ) (J : List Entry) (e : Entry) → n ≤ length J → placed r n (drop n (J ++ e ∷ [])) ≡ placed r n (drop n J) ++ placed r (length J) (e ∷ [])
+placed_after r n J e le = ap (placed r n) (drop-append-le n J (e ∷ []) le) ∙ placed_last r n (drop n J) e
+    ∙ (let l = length-drop n J in let z : n + length (drop n J) ≡ length J = omega arith in λ j. placed r n (drop n J) ++ placed r (z j) (e ∷ []))
 
-pub placed_else : (r : ℕ) (J : List Entry) (e : Entry) → ring_of e ≢ r → placed r 0 (J ++ e ∷ []) ≡ placed r 0 J
-placed_else r J e ne = placed_last r 0 J e
-    ∙ (λ j. placed r 0 J ++ cond (ne_eqb (ring_of e) r ne j) (record { place = 0 + length J; entry = e } ∷ []) [])
-    ∙ append-nil (placed r 0 J)
+pub placed_here : (r n : ℕ) (J : List Entry) (e : Entry) → n ≤ length J → ring_of e ≡ r → placed r n (drop n (J ++ e ∷ [])) ≡ placed r n (drop n J) ++ record { place = length J; entry = e } ∷ []
+placed_here r n J e le is = placed_after r n J e le ∙ (λ j. placed r n (drop n J) ++ cond (eq-eqb (ring_of e) r is j) (record { place = length J; entry = e } ∷ []) [])
+
+pub placed_else : (r n : ℕ) (J : List Entry) (e : Entry) → n ≤ length J → ring_of e ≢ r → placed r n (drop n (J ++ e ∷ [])) ≡ placed r n (drop n J)
+placed_else r n J e le ne = placed_after r n J e le
+    ∙ (λ j. placed r n (drop n J) ++ cond (ne_eqb (ring_of e) r ne j) (record { place = length J; entry = e } ∷ []) [])
+    ∙ append-nil (placed r n (drop n J))
+
+-- the journal goes on after the opening's
+pub kept_longer : (d : CoreData) → Kept d → length d.before ≤ length d.journal
+kept_longer d k = let b = k.sound.log.begins in let e = ap length b.1 in let l = length-append d.before b.0 in omega arith
 
 pub lines_added : (F : List (List Literal)) (J : List Entry) (x : Addition) (L : List Line) → L ≡ lines F J → L ++ AddLine x.lits ∷ [] ≡ lines F (J ++ Add x ∷ [])
 lines_added F J x L e = ap (λ (K : List Line). K ++ AddLine x.lits ∷ []) e ∙ sym (lines_last F J (Add x))
@@ -69,5 +78,6 @@ bury_logged d r a J L ls k lt w Js lss Ls =
     let n : ℕ = number_at (cell_in a d.cells) in
     let alive : (book d.formula d.journal).clause n ≡ Some (lits_at (cell_in a d.cells)) = ap (λ (q : Option Cell). (book d.formula d.journal).clause (number_at q)) t.1 ∙ k.sound.cells.alive a t.0 t.1 ∙ sym (ap (λ (q : Option Cell). Some (lits_at q)) t.1) in
     Ls ∙ (λ j. k.logged j ++ DelLine (lss j) ∷ [])
-    ∙ (λ j. lines d.formula d.journal ++ DelLine (unwrap_or (sym alive j) []) ∷ [])
+    ∙ (λ j. lines d.formula d.journal ++ DelLine (sym (ring_spells r (lits_at (cell_in a d.cells)) (let few = k.sound.opens.few_rings in omega arith)) j) ∷ [])
+    ∙ (λ j. lines d.formula d.journal ++ DelLine (spelled_by r (unwrap_or (sym alive j) [])) ∷ [])
     ∙ sym (lines_last d.formula d.journal (Del r n)) ∙ ap (lines d.formula) (sym Js)

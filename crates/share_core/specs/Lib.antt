@@ -8,3 +8,4 @@ pub mod Readable
 pub mod Machine
 pub mod Guards
 pub mod Steps
+pub mod NextRound

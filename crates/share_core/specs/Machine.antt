@@ -1,5 +1,5 @@
 -- What an executable core holds, and the state that this shows.
-use Rattle.std.specs.Prelude.{◌≡◌, ℕ, ◌*◌, Bool, false, ◌==◌, List, [], ◌∷◌, map, length, slice_index_or, Option, Some, None, if◌then◌else◌}
+use Rattle.std.specs.Prelude.{◌≡◌, ℕ, ◌*◌, Bool, false, ◌==◌, List, [], ◌∷◌, map, length, drop, slice_index_or, Option, Some, None, if◌then◌else◌}
 use Rattle.std.specs.List.{list_any}
 use Rattle.std.specs.Option.{unwrap_or}
 use Rattle.sat_words.specs.Literal.{Literal}
@@ -50,16 +50,17 @@ no_ring = record { granted = false; held = []; making = []; waiting = []; seen =
 abbrev pub ring_in : List RingState → ℕ → RingState
 ring_in rings r = slice_index_or rings r no_ring
 
--- its part; what it wrote stands in the journal
-abbrev pub part_of : ℕ → List Entry → RingState → Part
-part_of r J x = record { ring = r; held = x.held; making = x.making; waiting = x.waiting; seen = x.seen; shared = x.shared; wrote = placed r 0 J; puts = x.puts; ticket = x.ticket; found = x.found }
+-- its part; what it wrote stands in the journal after the first n entries
+abbrev pub part_of : ℕ → ℕ → List Entry → RingState → Part
+part_of r n J x = record { ring = r; held = x.held; making = x.making; waiting = x.waiting; seen = x.seen; shared = x.shared; wrote = placed r n (drop n J); puts = x.puts; ticket = x.ticket; found = x.found }
 
 -- Cores
 
--- the formula's clauses, the start clauses, the units listed from the start and the depth; the journal and its lines;
--- cells, rings, slots, listed units, turn and stop
+-- the formula's clauses, the journal before the opening, the start clauses, the units listed from the start, the depth and
+-- the limit; the whole journal and its lines; cells, rings, slots, listed units, turn, stop and the number of draws
 pub record CoreData : Type 0 where
   pub formula : List (List Literal)
+  pub before : List Entry
   pub starts : List ClauseAt
   pub first : List Literal
   pub depth : ℕ
@@ -74,14 +75,14 @@ pub record CoreData : Type 0 where
   pub stop : Option Stop
   pub drawn : ℕ
 
--- the state that a core shows, by look-ups in its lists; the ruler wrote nothing
+-- the state that a core shows, by look-ups in its lists
 abbrev pub state_of : CoreData → State
 state_of d = record {
-  opening = record { formula = d.formula; rings = length d.rings; depth = d.depth; journal = []; starts = d.starts; units = d.first; limit = d.limit };
+  opening = record { formula = d.formula; rings = length d.rings; depth = d.depth; journal = d.before; starts = d.starts; units = d.first; limit = d.limit };
   journal = d.journal;
   cell = λ a. cell_in a d.cells;
   granted = λ r. (ring_in d.rings r).granted;
-  part = λ r. part_of r d.journal (ring_in d.rings r);
+  part = λ r. part_of r (length d.before) d.journal (ring_in d.rings r);
   slot = λ k. slice_index_or d.slots k 0;
   units = d.units;
   turn = d.turn;
@@ -93,6 +94,7 @@ state_of d = record {
 abbrev pub data_of : Origin → Progress → CoreData
 data_of o p = record {
   formula = o.formula.clauses;
+  before = o.journal;
   starts = o.starts;
   first = o.units;
   depth = o.depth;

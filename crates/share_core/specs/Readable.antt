@@ -1,20 +1,35 @@
 -- What a sound state says, in plain words.
-use Rattle.std.specs.Prelude.{◌≡◌, ◌≢◌, ◌⊎◌, ℕ, ◌<◌, ◌≤◌, Bool, false, List, length, Some, None}
+use Rattle.std.specs.Prelude.{◌≡◌, ◌≢◌, ◌⊎◌, ℕ, ◌<◌, ◌≤◌, ◌==◌, Bool, true, false, List, length, Option, Some, None}
 use Rattle.std.specs.List.{list_any, Contains}
 use Rattle.sat_words.specs.Literal.{Literal}
+use Rattle.sat_words.specs.Clause.{clause_of}
 use Rattle.rup_model.specs.declared.journal.Addition.{Addition}
+use Rattle.rup_model.specs.declared.journal.Round.{Round as RoundStart}
 use Rattle.rup_model.specs.declared.journal.Entry.{Entry}
 use Rattle.rup_model.specs.Basics.{below}
 use Rattle.rup_model.specs.Log.{Accepted}
-use Rattle.rup_model.specs.Journal.{deletion, formula_clause, additions, spelled, lines, is_ring}
+use Rattle.rup_model.specs.Journal.{deletion, round_of, formula_clause, additions, spelled, lines, is_ring}
 use Rattle.share_core.specs.declared.stored.Cell.{Cell}
 use Rattle.share_core.specs.State.{times_at, State, slots}
 use Rattle.share_core.specs.Enabled.{Holds}
 use Rattle.share_core.specs.Sound.{counted}
 
+-- the number is one of those that the round begins with
+abbrev pub starts_with : ℕ → Option RoundStart → Bool
+starts_with n None = false
+starts_with n (Some x) = list_any (λ m. m == n) x.starts
+
+-- a round of the journal begins with the number
+abbrev pub is_kept : List Entry → ℕ → Bool
+is_kept J n = list_any (λ e. starts_with n (round_of e)) J
+
+-- the second is the first, or that in the order of `Clause` if a round of the journal begins with the number
+abbrev pub IsSpelled : List Entry → ℕ → List Literal → List Literal → Type 0
+IsSpelled J n c d = (c ≡ d) ⊎ ((is_kept J n ≡ true) × (clause_of c ≡ d))
+
 -- some addition of the journal has this number, and a deletion of it spells this clause
 abbrev pub IsAdded : List Entry → ℕ → List Literal → Type 0
-IsAdded J n c = (x : Addition) × Contains (additions J) x × (x.number ≡ n) × (spelled x ≡ c)
+IsAdded J n c = (x : Addition) × Contains (additions J) x × (x.number ≡ n) × IsSpelled J n (spelled x) c
 
 -- a deletion names the number
 abbrev pub deleted : List Entry → ℕ → Bool

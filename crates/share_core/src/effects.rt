@@ -156,7 +156,6 @@ impl Progress {
     }
 
     /// The unit is added.
-    #[tactic(auto, using(crate::proofs::Shown::placed_here, crate::proofs::Shown::placed_else, crate::proofs::Shown::lines_added))]
     pub(crate) fn add_unit(
         &mut self,
         alloc: Global,
@@ -178,7 +177,6 @@ impl Progress {
     }
 
     /// The empty clause is added.
-    #[tactic(auto, using(crate::proofs::Shown::placed_here, crate::proofs::Shown::placed_else, crate::proofs::Shown::lines_added))]
     pub(crate) fn add_empty(
         &mut self,
         alloc: Global,
@@ -196,7 +194,6 @@ impl Progress {
     }
 
     /// It is noted that the ring reduces.
-    #[tactic(auto, using(crate::proofs::Shown::placed_here, crate::proofs::Shown::placed_else, crate::proofs::Shown::lines_added, crate::proofs::Shown::lines_reduced))]
     pub(crate) fn reduce(&mut self, origin: &Origin, ring: u32) -> Result<(), AllocError>
         requires kept { Kept (data_of origin.now self.old) }
         requires enabled { IsEnabled (state_of (data_of origin.now self.old)) (ReduceEvent ring) }

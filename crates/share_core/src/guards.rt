@@ -65,7 +65,7 @@ impl Progress {
         ensures { let c = state_of (data_of origin.now self.now) in result ≡ fresh (start_clauses (opening_of c.opening)) (later c.opening c.journal) ring lits.now }
     {
         !includes_some(lits, origin.starts.as_slice())
-            && !repeats_recent(self.journal.as_slice(), ring, lits)
+            && !repeats_recent(self.later(origin), ring, lits)
     }
 
     /// Whether the ring may learn the clause, but for what it knows.
@@ -183,7 +183,7 @@ impl Progress {
         ensures { result ≡ is_enabled (state_of (data_of origin.now self.now)) (Event.Reduce ring) }
     {
         self.writes(origin, ring)
-            && count_recent(self.journal.as_slice(), ring) as u64 >= LEARNED_PER_REDUCTION
+            && count_recent(self.later(origin), ring) as u64 >= LEARNED_PER_REDUCTION
     }
 
     fn may_exchange(&self, origin: &Origin, ring: u32, other: u32, class: u8, place: u32) -> bool

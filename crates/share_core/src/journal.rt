@@ -9,7 +9,7 @@ ghost use Rattle.rup_model.specs.Journal.{addition, book, ended, is_told, is_lea
 ghost use Rattle.share_core.specs.Machine.{adds};
 
 use crate::items::Copied;
-use rup_model::{Addition, Entry, Kind};
+use rup_model::{Addition, Entry, Kind, Round, StartNumbers};
 use sat_words::{Clause, Line, Lit, Lits, MAX_ENTRIES};
 use std::alloc::{AllocError, Global};
 
@@ -27,6 +27,10 @@ impl Copied for Entry {
                 number: *number,
             }),
             Entry::Reduce { ring } => Ok(Entry::Reduce { ring: *ring }),
+            Entry::Round(x) => Ok(Entry::Round(Round {
+                starts: StartNumbers::from_slice(alloc, x.starts.as_slice())?,
+                units: Lits::from_slice(alloc, x.units.as_slice())?,
+            })),
         }
     }
 }
@@ -84,7 +88,7 @@ fn adds_empty(entry: &Entry) -> bool
 {
     match entry {
         Entry::Add(x) => x.lits.as_slice().is_empty(),
-        Entry::Del { .. } | Entry::Reduce { .. } => false,
+        Entry::Del { .. } | Entry::Reduce { .. } | Entry::Round(_) => false,
     }
 }
 
@@ -93,7 +97,7 @@ fn adds_unit(entry: &Entry, lit: Lit) -> bool
 {
     match entry {
         Entry::Add(x) => is_unit(x.lits.as_slice(), lit),
-        Entry::Del { .. } | Entry::Reduce { .. } => false,
+        Entry::Del { .. } | Entry::Reduce { .. } | Entry::Round(_) => false,
     }
 }
 
@@ -147,7 +151,7 @@ fn count_after(count: usize, entry: &Entry, ring: u32) -> usize
                 count
             }
         }
-        Entry::Del { .. } => count,
+        Entry::Del { .. } | Entry::Round(_) => count,
         Entry::Reduce { ring: other } => { if *other == ring { 0 } else { count } }
     }
 }
@@ -169,7 +173,7 @@ fn repeats_after(yet: bool, entry: &Entry, ring: u32, lits: &[Lit]) -> bool
 {
     match entry {
         Entry::Add(x) => yet || (is_learned_by(x, ring) && includes(lits, x.lits.as_slice())),
-        Entry::Del { .. } => yet,
+        Entry::Del { .. } | Entry::Round(_) => yet,
         Entry::Reduce { ring: other } => yet && *other != ring,
     }
 }
@@ -185,12 +189,13 @@ pub(crate) fn repeats_recent(journal: &[Entry], ring: u32, lits: &[Lit]) -> bool
     repeats
 }
 
-fn adds_clause(entry: &Entry) -> bool
+/// Whether it is an addition.
+pub(crate) fn adds_clause(entry: &Entry) -> bool
     ensures { result ≡ is_some (addition entry.now) }
 {
     match entry {
         Entry::Add(_) => true,
-        Entry::Del { .. } | Entry::Reduce { .. } => false,
+        Entry::Del { .. } | Entry::Reduce { .. } | Entry::Round(_) => false,
     }
 }
 

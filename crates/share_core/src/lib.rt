@@ -11,6 +11,7 @@ mod cell_laws;
 mod cells;
 mod effects;
 mod event;
+mod fitting;
 mod guards;
 mod items;
 mod journal;
@@ -19,6 +20,7 @@ mod part;
 mod progress;
 mod ring;
 mod ring_laws;
+mod rounds;
 mod running;
 mod stored;
 

@@ -6,7 +6,8 @@ ghost use Rattle.rup_model.specs.Rup.{rup};
 ghost use Rattle.share_core.specs.declared.stored.ClauseAt.{ClauseAt};
 ghost use Rattle.share_core.specs.declared.progress.Origin.{Origin};
 ghost use Rattle.rup_model.specs.Journal.{is_ring};
-ghost use Rattle.share_core.specs.Machine.{has_at, ring_in, data_of};
+ghost use Rattle.share_core.specs.State.{later};
+ghost use Rattle.share_core.specs.Machine.{has_at, ring_in, data_of, state_of};
 
 use crate::event::Stop;
 use crate::items::{Items, copies};
@@ -20,6 +21,8 @@ use std::alloc::{AllocError, Global};
 #[derive(Drop)]
 pub(crate) struct Origin {
     pub(crate) formula: Formula,
+    /// The journal before the opening.
+    pub(crate) journal: Items<Entry>,
     pub(crate) starts: Items<ClauseAt>,
     pub(crate) units: Items<Lit>,
     pub(crate) depth: u32,
@@ -29,7 +32,9 @@ pub(crate) struct Origin {
 /// What the events have changed so far.
 #[derive(Drop)]
 pub(crate) struct Progress {
+    /// The whole journal, with the entries before the opening.
     pub(crate) journal: Items<Entry>,
+    /// Its lines.
     pub(crate) lines: Items<Line>,
     pub(crate) cells: Vec<StoredCell>,
     pub(crate) rings: Vec<RingState>,
@@ -56,6 +61,17 @@ impl Progress {
             stop: self.stop,
             drawn: self.drawn,
         })
+    }
+
+    /// The entries after those of the opening.
+    pub(crate) fn later(&self, origin: &Origin) -> &[Entry]
+        ensures { let c = state_of (data_of origin.now self.now) in result.now ≡ later c.opening c.journal }
+    {
+        let before = origin.journal.len();
+        if before > self.journal.len() {
+            return &[];
+        }
+        &self.journal.as_slice()[before..]
     }
 
     /// Whether it is a ring's number.

@@ -1,20 +1,25 @@
 // The executable core, which the program never runs: it makes the definitions of specs/ run, for tests.
-ghost use Rattle.std.specs.Prelude.{◌≡◌, ◌⊎◌, ◌<◌, ◌≤◌, ◌∷◌, [], ◌++◌, length, map, replicate, IfOk, OnErr, OnOk, List, ℕ};
+ghost use Rattle.std.specs.Prelude.{◌≡◌, ◌⊎◌, ◌<◌, ◌≤◌, ◌∷◌, [], ◌++◌, length, map, replicate, IfOk, OnErr, OnOk, List, ℕ, All, true};
 ghost use Rattle.std.specs.Option.{unwrap_or};
-ghost use Rattle.rup_model.specs.Journal.{formula_clause, lines};
+ghost use Rattle.rup_model.specs.Journal.{formula_clause, lines as lines_of};
 ghost use Rattle.share_core.specs.State.{times_at, IsCoreOpening, opened, count_at, number_at, slot_of};
 ghost use Rattle.share_core.specs.Events.{after};
 ghost use Rattle.share_core.specs.Enabled.{IsEnabled};
 ghost use Rattle.share_core.specs.Machine.{data_of, state_of, Logged, Kept, has_at, no_ring, start_at, start_stored, core_opening};
 ghost use Rattle.share_core.specs.Guards.{is_enabled};
+ghost use Rattle.share_core.specs.NextRound.{NoneBuilt, IsInOrder, IsNextRound, MayBegin, next_opening};
+ghost use Rattle.rup_model.specs.declared.journal.Entry.{Entry};
 ghost use Rattle.share_core.specs.Steps.{Steps, and_then, Runs};
 
 use crate::cells::{count_of, number_of};
 use crate::event::{Event, Stop};
+use crate::fitting::may_begin;
 use crate::items::Items;
 use crate::progress::{Origin, Progress};
 use crate::ring::{RingState, has_at, times_of};
+use crate::rounds::{note_lines, numbers_of, starts_in};
 use crate::stored::{Cell, ClauseAt, StoredCell};
+use rup_model::{Entry, Round, StartNumbers};
 use sat_words::{Clause, Formula, Line, Lit, Lits};
 use std::alloc::{AllocError, Global};
 use std::marker::Model;
@@ -233,6 +238,50 @@ fn listed(alloc: Global, units: &[Lit]) -> Result<Items<Lit>, AllocError>
     Ok(all)
 }
 
+/// The machine before the first event after the journal, whose lines are these.
+fn opened(
+    alloc: Global,
+    formula: Formula,
+    journal: Items<Entry>,
+    lines: Items<Line>,
+    starts: Items<ClauseAt>,
+    units: &[Lit],
+    rings: u32,
+    depth: u32,
+    limit: u64,
+) -> Result<Core, AllocError>
+    requires opens { IsCoreOpening (record { formula = formula.clauses; rings = rings; depth = depth; journal = journal; starts = starts; units = units.now; limit = limit }) }
+    requires told { lines ≡ lines_of formula.clauses journal }
+    ensures { IfOk result (λ core. state_of core ≡ opened (record { formula = formula.clauses; rings = rings; depth = depth; journal = journal; starts = starts; units = units.now; limit = limit })) }
+{
+    let cells = start_cells(alloc, starts.as_slice(), rings)?;
+    let progress = Progress {
+        journal: journal.copied(alloc)?,
+        lines,
+        cells,
+        rings: blank_rings(alloc, rings)?,
+        slots: empty_slots(
+            alloc,
+            4 * (rings as usize * rings as usize) * depth as usize,
+        )?,
+        units: listed(alloc, units)?,
+        turn: None,
+        stop: None,
+        drawn: 0,
+    };
+    Ok(Core {
+        origin: Origin {
+            formula,
+            journal,
+            starts,
+            units: listed(alloc, units)?,
+            depth,
+            limit,
+        },
+        progress,
+    })
+}
+
 impl Core {
     /// The machine before the first event. Start clauses are given by their addresses and their numbers in the formula,
     /// from 1. The depth is how many slots there are for each two rings and class. The limit is how many clauses the rings
@@ -250,31 +299,91 @@ impl Core {
         ensures { IfOk result (λ core. state_of core ≡ opened (core_opening formula.clauses start.now units.now rings depth limit)) }
     {
         let starts = start_clauses(alloc, formula.clauses(), start)?;
-        let cells = start_cells(alloc, starts.as_slice(), rings)?;
-        let progress = Progress {
-            journal: Items::new(alloc),
-            lines: Items::new(alloc),
-            cells,
-            rings: blank_rings(alloc, rings)?,
-            slots: empty_slots(
-                alloc,
-                4 * (rings as usize * rings as usize) * depth as usize,
-            )?,
-            units: listed(alloc, units)?,
-            turn: None,
-            stop: None,
-            drawn: 0,
-        };
-        Ok(Core {
-            origin: Origin {
-                formula,
-                starts,
-                units: listed(alloc, units)?,
-                depth,
-                limit,
-            },
-            progress,
-        })
+        opened(
+            alloc,
+            formula,
+            Items::new(alloc),
+            Items::new(alloc),
+            starts,
+            units,
+            rings,
+            depth,
+            limit,
+        )
+    }
+
+    /// Whether the next round may begin with these. It may where the answer is no, if a line is an addition.
+    pub fn may_begin(
+        &self,
+        alloc: Global,
+        lines: &[Line],
+        start: &[(u64, u64)],
+        units: &[Lit],
+        limit: u64,
+    ) -> Result<bool, AllocError>
+        ensures { IfOk result (λ yes. yes ≡ true → MayBegin (state_of self.now) lines.now start.now units.now limit) }
+    {
+        may_begin(
+            alloc,
+            &self.origin,
+            &self.progress,
+            lines,
+            start,
+            units,
+            limit,
+        )
+    }
+
+    /// The machine before the first event of the next round. The ruler's lines are added to the log. Start clauses are given
+    /// by their addresses and their numbers, and are from then on spelled in the order of `Clause`. Nothing is left of the
+    /// cells, slots, listed units, tickets and stop; there are as many rings and slots. After an error nothing is left.
+    pub fn next_round(
+        self,
+        alloc: Global,
+        lines: &[Line],
+        start: &[(u64, u64)],
+        units: &[Lit],
+        limit: u64,
+    ) -> Result<Core, AllocError>
+        requires built { NoneBuilt (state_of self) }
+        requires ordered { All IsInOrder lines.now }
+        requires opens { (E : List Entry) × IsNextRound (state_of self) lines.now start.now units.now limit E }
+        ensures opened { (E : List Entry) → IsNextRound (state_of self) lines.now start.now units.now limit E → IfOk result (λ core. state_of core ≡ opened (next_opening (state_of self) E start.now units.now limit)) }
+        ensures told { IfOk result (λ core. lines_of core.formula core.journal ≡ lines_of self.formula self.journal ++ lines.now) }
+    {
+        let Core { origin, progress } = self;
+        let Origin { formula, depth, .. } = origin;
+        let Progress {
+            mut journal,
+            lines: mut told,
+            rings,
+            ..
+        } = progress;
+        let kept = numbers_of(alloc, start)?;
+        note_lines(
+            alloc,
+            formula.clauses(),
+            kept.as_slice(),
+            lines,
+            &mut journal,
+            &mut told,
+        )?;
+        journal.push(Entry::Round(Round {
+            starts: StartNumbers::from_slice(alloc, kept.as_slice())?,
+            units: Lits::from_slice(alloc, units)?,
+        }))?;
+        let starts = starts_in(alloc, formula.clauses(), journal.as_slice(), start)?;
+        opened(
+            alloc,
+            formula,
+            journal,
+            told,
+            starts,
+            units,
+            rings.len() as u32,
+            depth,
+            limit,
+        )
     }
 
     /// How many hold the cell at the address; 0 if there is none.
@@ -394,7 +503,7 @@ impl Core {
 
     /// The lines of the log, in order.
     pub fn lines(&self) -> &[Line]
-        ensures { result.now ≡ lines self.now.formula self.now.journal }
+        ensures { result.now ≡ lines_of self.now.formula self.now.journal }
     {
         self.progress.lines.as_slice()
     }

@@ -1,6 +1,6 @@
 -- Start clauses lie one after the other.
-use Rattle.std.proofs.Common.{◌≡◌, ◌≢◌, ℕ, zero, suc, ◌+◌, ◌-◌, ◌^◌, ◌<◌, ◌≤◌, ◌==◌, true, false, List, [], ◌∷◌, ◌++◌, map, length, fold, drop, All, refl, sym, ap, ◌∙◌, subst, ⊎_elim, inl, inr, arith, eq-eqb, ne_eqb, true≢false, append-nil, append_assoc, get_or, take, Some, None}
-use Rattle.std.specs.Prelude.{nat_le, nat_eq, if◌then◌else◌}
+use Rattle.std.proofs.Common.{◌≡◌, ◌≢◌, ◌⊎◌, ℕ, zero, suc, ◌+◌, ◌-◌, ◌^◌, ◌<◌, ◌≤◌, ◌==◌, true, false, List, [], ◌∷◌, ◌++◌, map, length, fold, drop, All, refl, sym, ap, ◌∙◌, subst, ⊎_elim, inl, inr, arith, eq-eqb, ne_eqb, true≢false, append-nil, append_assoc, get_or, take, Option, Some, None}
+use Rattle.std.specs.Prelude.{⊤, nat_le, nat_eq, if◌then◌else◌}
 use Rattle.std.specs.List.{IsDistinct, AllByRecursion}
 use Rattle.std.proofs.lemmas.Bool.Decides.{leb_tells, eqb_tells}
 use Rattle.std.proofs.lemmas.List.{drop_all, map-append, take_all}
@@ -15,9 +15,9 @@ use Rattle.clause_cell.specs.Packing.{words_for}
 use Rattle.clause_cell.specs.Free.{range, whole, first_fit, without_fit, rest_of, largest}
 use Rattle.rup_model.specs.declared.journal.Entry.{Entry}
 use Rattle.rup_model.specs.Basics.{put, one_if}
-use Rattle.rup_model.specs.Opening.{IsStart, Start, OpensAfter}
+use Rattle.rup_model.specs.Opening.{Start, Opening, IsStart, IsOpening, OpensAfter}
 use Rattle.rup_model.specs.Journal.{Book, added}
-use Rattle.rup_model.proofs.Sums.{put_here}
+use Rattle.rup_model.proofs.Sums.{at_put, put_here}
 use Rattle.rup_model.proofs.Lists.{In}
 use Rattle.rup_model.proofs.ProgramOpening.{All_from_In}
 use Rattle.share_core.specs.declared.part.CoreOpening.{CoreOpening}
@@ -26,10 +26,11 @@ use Rattle.share_core.specs.declared.stored.Cell.{Cell}
 use Rattle.share_core.specs.State.{IsCoreOpening, start_cell, opened, times_at}
 use Rattle.share_core.proofs.Counting.{some_same, none_some}
 use Rattle.share_rule.specs.declared.Layout.{Layout}
-use Rattle.share_rule.specs.Layout.{first_cell, InVars}
-use Rattle.share_rule.specs.Room.{Room, with_clause, placed, start_room, room, Places}
+use Rattle.share_rule.specs.Layout.{first_cell, table_words, InVars}
+use Rattle.share_rule.specs.Room.{Room, with_clause, placed, start_room, room, IsTiled, Places}
 use Rattle.share_rule.specs.FirstWords.{total, starts_at, begun_with, MayBegin, IsMakeStop, addresses, cell_words, start_words}
-use Rattle.share_rule.proofs.Rooms.{placed_else}
+use Rattle.share_core.proofs.ClauseLists.{at_in}
+use Rattle.share_rule.proofs.Rooms.{RoomSound, placed_else, placed_sound, empty_sound, placed_tiled, empty_tiled, few_words}
 use Rattle.share_rule.proofs.Literals.{few_distinct}
 
 -- One hole
@@ -103,7 +104,52 @@ placed_words (s ∷ ss) m base len e le d h (inr i) =
     let size : ℕ = length s.1 in
     placed_words ss (placed m s.0 size) (base + words_for size) (len - words_for size) (ap (λ (r : Room). r.holes) (placed_whole m base len s.0 size e (omega arith))) (omega arith) d.1 h i
 
+-- who has words once all are placed: who had some before, or a start clause, at its address
+words_from : (ss : List (ℕ × List Literal)) (m : Room) (base len : ℕ) → m.holes ≡ whole base len → total ss ≤ len → (n : ℕ) (r : Hole) → (fold place m (starts_at base ss)).words n ≡ Some r
+    → (m.words n ≡ Some r) ⊎ ((h : ClauseAt) × In h (starts_at base ss) × (h.number ≡ n) × (r.first ≡ h.address))
+words_from [] m base len e le n r h = inl h
+words_from (s ∷ ss) m base len e le n r h =
+    let size : ℕ = length s.1 in
+    let is = placed_whole m base len s.0 size e (omega arith) in
+    ⊎_elim
+    (λ (k : (placed m s.0 size).words n ≡ Some r). at_put m.words s.0 (Some (range base (words_for size))) (λ (q : Option Hole). q ≡ Some r → (m.words n ≡ Some r) ⊎ ((h : ClauseAt) × In h (starts_at base (s ∷ ss)) × (h.number ≡ n) × (r.first ≡ h.address))) n
+    (λ here z. inr (record { address = base; number = s.0; lits = s.1 }, inl refl, sym here, ap (λ (x : Hole). x.first) (sym (some_same (range base (words_for size)) r z))))
+    (λ _ z. inl z)
+    (ap (λ (x : Room). x.words n) (sym is) ∙ k))
+    (λ (t : (h : ClauseAt) × In h (starts_at (base + words_for size) ss) × (h.number ≡ n) × (r.first ≡ h.address)). inr (t.0, inr t.1, t.2, t.3))
+    (words_from ss (placed m s.0 size) (base + words_for size) (len - words_for size) (ap (λ (x : Room). x.holes) is) (omega arith) n r h)
+
+-- none of them has words
+abbrev AreNew : Room → List (ℕ × List Literal) → Type 0
+AreNew m [] = ⊤
+AreNew m (s ∷ ss) = (m.words s.0 ≡ None) × AreNew m ss
+
+new_kept : (m : Room) (k size : ℕ) (ss : List (ℕ × List Literal)) → IsNew k ss → AreNew m ss → AreNew (placed m k size) ss
+new_kept m k size [] d h = tt
+new_kept m k size (s ∷ ss) d h = (placed_else m k size s.0 (λ e. true≢false (sym (eq-eqb k s.0 (sym e)) ∙ d.0)) ∙ h.0, new_kept m k size ss d.1 h.1)
+
+all_new : (a n : ℕ) (ss : List (ℕ × List Literal)) → AreNew (record { holes = whole a n; words = λ _. None }) ss
+all_new a n [] = tt
+all_new a n (s ∷ ss) = (refl, all_new a n ss)
+
+starts_tiled : (l : Layout) → table_words l ≤ 2 ^ 63 → (ss : List (ℕ × List Literal)) (m : Room) (base : ℕ) → RoomSound l m → IsDistinct nat_eq (map (λ (s : ℕ × List Literal). s.0) ss) → AreNew m ss → IsTiled l m → IsTiled l (fold place m (starts_at base ss))
+unfolding IsDistinct
+starts_tiled l small [] m base rs d new t = t
+starts_tiled l small (s ∷ ss) m base rs d new t =
+    let size : ℕ = length s.1 in
+    starts_tiled l small ss (placed m s.0 size) (base + words_for size) (placed_sound l small m s.0 size rs) d.1 (new_kept m s.0 size ss d.0 new.1) (placed_tiled l small m s.0 size rs new.0 t)
+
 -- Start cells
+
+start_there : (n : ℕ) (ss : List ClauseAt) (s : ClauseAt) → In s ss → ((a : ℕ) → times_at a ss ≤ 1) → start_cell n ss s.address ≡ Some (record { lits = s.lits; number = s.number; count = n; maker = None })
+start_there n [] s i once = absurd i
+start_there n (t ∷ ss) s (inl e) once = subst (λ (k : ClauseAt). start_cell n (t ∷ ss) k.address ≡ Some (record { lits = k.lits; number = k.number; count = n; maker = None })) e
+    (λ j. if eq-eqb t.address t.address refl j then Some (record { lits = t.lits; number = t.number; count = n; maker = None }) else start_cell n ss t.address)
+start_there n (t ∷ ss) s (inr i) once =
+    let few = once s.address in
+    let some = at_in ss s i in
+    let apart : s.address ≢ t.address = λ e. (let u : one_if (t.address == s.address) ≡ 1 = ap one_if (eq-eqb t.address s.address (sym e)) in omega arith) in
+    (λ j. if ne_eqb s.address t.address apart j then Some (record { lits = t.lits; number = t.number; count = n; maker = None }) else start_cell n ss s.address) ∙ start_there n ss s i (λ a. (let q = once a in omega arith))
 
 -- the start cell at an address is a start clause's
 pub cell_start : (n : ℕ) (ss : List ClauseAt) (a : ℕ) (x : Cell) → start_cell n ss a ≡ Some x → (s : ClauseAt) × In s ss × (s.address ≡ a) × (record { lits = s.lits; number = s.number; count = n; maker = None } ≡ x)
@@ -221,9 +267,16 @@ laid_all l ss i low ws holes cells le h =
     let k : Laid l low ss ws holes cells = subst (λ (xs : List (ℕ × List Literal)). Laid l low xs ws holes cells) (take_all i ss le) h in
     k.2 ∙ sym (start_holes l ss k.1)
 
+-- an opening of the ruler's opens a table
+pub opens_a_table : (F : List (List Literal)) (o : Opening) → IsOpening F o → OpensAfter F o
+opens_a_table F o h = record { fits = h.rulers_part.fits; accepted = h.rulers_part.accepted; going = h.rulers_part.going; starts = h.starts; numbers = h.numbers; told = h.told; distinct = h.distinct }
+
 module _ (F : List (List Literal)) (l : Layout) (J : List Entry) (ss : List (ℕ × List Literal)) (us : List Literal) (may : MayBegin F l J ss us) where
   start : CoreOpening
   start = begun_with F l J ss us
+
+  small_table : table_words l ≤ 2 ^ 63
+  small_table = let q = few_words l may.few_rings may.few_vars may.few_words in omega arith
 
   -- these parts make an opening
   pub begun_opens : IsCoreOpening (begun_with F l J ss us)
@@ -232,7 +285,7 @@ module _ (F : List (List Literal)) (l : Layout) (J : List Entry) (ss : List (ℕ
     few_rings = may.few_rings;
     some_slot = may.some_slot;
     few_slots = may.few_slots;
-    opens = subst (λ starts. OpensAfter F (record { journal = J; starts = starts; units = us })) (sym (same_starts (first_cell l) ss)) (let w = may.opens in record { fits = w.rulers_part.fits; accepted = w.rulers_part.accepted; going = w.rulers_part.going; starts = w.starts; numbers = w.numbers; told = w.told; distinct = w.distinct });
+    opens = subst (λ starts. OpensAfter F (record { journal = J; starts = starts; units = us })) (sym (same_starts (first_cell l) ss)) may.opens;
     room = may.few_entries;
     placed = All_from_In (λ s. s.address ≢ 0) (starts_at (first_cell l) ss) (λ h i e. let low = (start_vars l ss (first_cell l) may.starts h i).0 in omega arith);
     apart = once ss (first_cell l);
@@ -256,6 +309,12 @@ module _ (F : List (List Literal)) (l : Layout) (J : List Entry) (ss : List (ℕ
     words = λ a x e. let s = cell_start l.rings (starts_at (first_cell l) ss) a x e in
         subst (λ (y : ℕ × Cell). (room l (begun_with F l J ss us) J).words y.1.number ≡ Some (range y.0 (words_for (length y.1.lits)))) (λ i. (s.2 i, s.3 i))
         (ap (λ (m : Room). m.words s.0.number) begun_room ∙ placed_words ss (record { holes = whole (first_cell l) l.words; words = λ _. None }) (first_cell l) l.words refl le (subst (IsDistinct nat_eq) (numbers ss) may.opens.numbers) s.0 s.1);
+    only = λ n r h.
+        (let t = words_from ss (record { holes = whole (first_cell l) l.words; words = λ _. None }) (first_cell l) l.words refl le n r (ap (λ (m : Room). m.words n) (sym begun_room) ∙ h) in
+        ⊎_elim (λ (z : None ≡ Some r). absurd (none_some r z))
+        (λ (z : (k : ClauseAt) × In k (starts_at (first_cell l) ss) × (k.number ≡ n) × (r.first ≡ k.address)).
+        (record { lits = z.0.lits; number = z.0.number; count = l.rings; maker = None }, ap (start_cell l.rings (starts_at (first_cell l) ss)) z.3 ∙ start_there l.rings (starts_at (first_cell l) ss) z.0 z.1 (once ss (first_cell l)), z.2)) t);
+    tiled = subst (IsTiled l) (sym begun_room) (starts_tiled l small_table ss (record { holes = whole (first_cell l) l.words; words = λ _. None }) (first_cell l) (empty_sound l small_table) (subst (IsDistinct nat_eq) (numbers ss) may.opens.numbers) (all_new (first_cell l) l.words ss) (empty_tiled l small_table));
     vars = λ a x e. let s = cell_start l.rings (starts_at (first_cell l) ss) a x e in subst (λ (y : Cell). InVars l y.lits) s.3 (start_vars l ss (first_cell l) may.starts s.0 s.1).1;
     starts = All_from_In (λ s. InVars l s.lits) (starts_at (first_cell l) ss) (λ h i. (start_vars l ss (first_cell l) may.starts h i).1);
     entries = subst (λ (K : List Entry). All (InVars l) (added K)) (sym (drop_all (length J) J (omega arith))) (λ i k lt. absurd (omega arith));

@@ -102,7 +102,7 @@ module _ {S : Type 0} (stands : S → BookOrigin → Layout → CoreOpening → 
       λ y z. subst (λ (u : ℕ × ℕ). IsOut l d (set s.words u.0 u.1) y) (λ i. (sym word i, sym m_is i)) (ticket_out l c d s.words (c.drawn + 1) y st (λ _. refl) refl refl z) in
       let t = moved stands l s h d h.glue id v (after_draw n v) q (set s.words w m) s.homes at
       (left_one c.opening c (Draw r) h.left (part.ring, none, few))
-      (record { rings = h.places.rings; depth = h.places.depth; limit = h.places.limit; small = h.places.small; words = h.places.words; vars = h.places.vars; starts = h.places.starts; entries = h.places.entries; units = h.places.units; few = h.places.few; first = h.places.first })
+      (record { rings = h.places.rings; depth = h.places.depth; limit = h.places.limit; small = h.places.small; words = h.places.words; only = h.places.only; tiled = h.places.tiled; vars = h.places.vars; starts = h.places.starts; entries = h.places.entries; units = h.places.units; few = h.places.few; first = h.places.first })
       (subst (λ (u : ℕ × ℕ). Words l d h.glue (set s.words u.0 u.1)) (λ i. (sym word i, sym m_is i)) (ticket_words l c h.glue s.words r q' st h.words))
       (frame_of r c d h.glue (record { opening = refl; journal = refl; turn = refl; units = refl; stop = refl; slots = λ _. refl; clauses = λ _. refl }) (λ _ _. refl) (put_else c.part r q')) (λ _. refl) h.home
       may.one refl (ap (on_first (draw_part v.opening.limit n)) may.one) refl refl refl refl refl

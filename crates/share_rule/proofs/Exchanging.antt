@@ -142,7 +142,7 @@ module _ {S : Type 0} (stands : S → BookOrigin → Layout → CoreOpening → 
         part.given to class place lt few below,
         moved stands l s h d h.glue id v (after_put to class place a x g v) (gave_part note x g p) (set s.words (slot_word v r to class place) a) s.homes at
             (left_one c.opening c (Put r to class place a) h.left (part.ring, lt, other.2, few, below, held))
-            (record { rings = h.places.rings; depth = h.places.depth; limit = h.places.limit; small = h.places.small; words = h.places.words; vars = h.places.vars; starts = h.places.starts; entries = h.places.entries; units = h.places.units; few = h.places.few; first = h.places.first })
+            (record { rings = h.places.rings; depth = h.places.depth; limit = h.places.limit; small = h.places.small; words = h.places.words; only = h.places.only; tiled = h.places.tiled; vars = h.places.vars; starts = h.places.starts; entries = h.places.entries; units = h.places.units; few = h.places.few; first = h.places.first })
             (subst (λ (y : ℕ). Words l d h.glue (set s.words y a)) (sym word) (slot_words l c h.glue s.words i a r q' st in_slots h.words))
             (exchange_frame c r i a q' h.glue (λ i' to' class' place' ne lt' few' there' e. absurd (ne (slot_own c.opening i' to' class' place' r to class place lt' lt few' few there' below e).0)))
             (λ _. refl) h.home holding.0 refl (ap (on_first (gave_part note x g)) holding.0) refl refl refl refl refl
@@ -215,7 +215,7 @@ module _ {S : Type 0} (stands : S → BookOrigin → Layout → CoreOpening → 
         keeps_glues h.glue x p part.glues,
         moved stands l s h d h.glue id v (after_get from class place x g v) (took_part from class place x g p) (set s.words (slot_word v from r class place) 0) s.homes at
             (left_one c.opening c (Get r from class place) h.left (part.ring, lt, other.2, few, below))
-            (record { rings = h.places.rings; depth = h.places.depth; limit = h.places.limit; small = h.places.small; words = h.places.words; vars = h.places.vars; starts = h.places.starts; entries = h.places.entries; units = h.places.units; few = h.places.few; first = h.places.first })
+            (record { rings = h.places.rings; depth = h.places.depth; limit = h.places.limit; small = h.places.small; words = h.places.words; only = h.places.only; tiled = h.places.tiled; vars = h.places.vars; starts = h.places.starts; entries = h.places.entries; units = h.places.units; few = h.places.few; first = h.places.first })
             (subst (λ (y : ℕ). Words l d h.glue (set s.words y 0)) (sym word) (slot_words l c h.glue s.words i 0 r q' st in_slots h.words))
             (exchange_frame c r i 0 q' h.glue (λ _ _ _ _ _ _ _ _ _. refl))
             (λ _. refl) h.home other.0 refl (ap (on_first (took_part from class place x g)) other.0) refl refl refl refl refl

@@ -109,7 +109,7 @@ module _ {S : Type 0} (stands : S → BookOrigin → Layout → CoreOpening → 
       } in
       let frame : Frame r c d h.glue h.glue = frame_of r c d h.glue (record { opening = refl; journal = refl; turn = refl; units = refl; stop = refl; slots = λ _. refl; clauses = λ _. refl }) else_where others in
       let next = acted stands l s h d h.glue id r v w (set s.words (grant_at r) 0) s.homes at (left_one c.opening c (Grant r) h.left (lt, closed))
-      (record { rings = h.places.rings; depth = h.places.depth; limit = h.places.limit; small = h.places.small; words = h.places.words; vars = h.places.vars; starts = h.places.starts; entries = h.places.entries; units = h.places.units; few = h.places.few; first = h.places.first })
+      (record { rings = h.places.rings; depth = h.places.depth; limit = h.places.limit; small = h.places.small; words = h.places.words; only = h.places.only; tiled = h.places.tiled; vars = h.places.vars; starts = h.places.starts; entries = h.places.entries; units = h.places.units; few = h.places.few; first = h.places.first })
       (grant_words l c h.glue s.words r p (standing_of stands l s h) in_layout h.words) frame own lt here h.fault h.home
       (record {
         rights = λ i it. let q = times_without r i v.rights some_right in dite (ℕ_discrete i r)

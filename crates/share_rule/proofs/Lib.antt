@@ -28,3 +28,6 @@ pub mod LowWords
 pub mod Exchanging
 pub mod Stopping
 pub mod Drawing
+pub mod Decoding
+pub mod CellWords
+pub mod Reading

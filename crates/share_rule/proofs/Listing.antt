@@ -100,7 +100,7 @@ module _ {S : Type 0} (stands : S → BookOrigin → Layout → CoreOpening → 
         subst (λ (y : Layout). InVars y (lit ∷ [])) (sym t.0) (one_of l c.units (length p.core.seen) lt h.places.units),
         moved stands l s h d h.glue id v (after_see lit v) (see_part lit p) s.words s.homes at
             (left_one c.opening c (See r) h.left (part.ring, subst (λ (y : ℕ). y < length c.units) same lt))
-            (record { rings = h.places.rings; depth = h.places.depth; limit = h.places.limit; small = h.places.small; words = h.places.words; vars = h.places.vars; starts = h.places.starts; entries = h.places.entries; units = h.places.units; few = h.places.few; first = h.places.first })
+            (record { rings = h.places.rings; depth = h.places.depth; limit = h.places.limit; small = h.places.small; words = h.places.words; only = h.places.only; tiled = h.places.tiled; vars = h.places.vars; starts = h.places.starts; entries = h.places.entries; units = h.places.units; few = h.places.few; first = h.places.first })
             (record { wide = h.words.wide; turn_is = h.words.turn_is; stop_is = h.words.stop_is; listed_is = h.words.listed_is; grant_is = h.words.grant_is; unit_is = h.words.unit_is; slot_is = h.words.slot_is; ticket_is = h.words.ticket_is; count_is = h.words.count_is; cell_is = h.words.cell_is })
             (frame_of r c d h.glue (record { opening = refl; journal = refl; turn = refl; units = refl; stop = refl; slots = λ _. refl; clauses = λ _. refl }) (λ _ _. refl) (put_else c.part r q')) (λ _. refl) h.home one refl (only_changed (see_part lit) v one) refl refl refl refl refl
             (stops_same c.stop v (after_see lit v) (see_part lit p) one (only_changed (see_part lit) v one) refl refl (h.each id v at).stops)
@@ -175,7 +175,7 @@ module _ {S : Type 0} (stands : S → BookOrigin → Layout → CoreOpening → 
       subst (λ (y : ℕ). (m : Shows stands l (record { words = set s.words 2 y; homes = s.homes; views = set s.views id (after_list lit v) })) × (m.core ≡ d)) (sym n_is)
       (moved stands l s h d h.glue id v (after_list lit v) (list_part lit p) (set s.words 2 n) s.homes at
       (left_one c.opening c (Publish r lit) h.left (part.ring, ok.turn, ok.told, same, ok.new))
-      (record { rings = h.places.rings; depth = h.places.depth; limit = h.places.limit; small = h.places.small; words = h.places.words; vars = h.places.vars; starts = h.places.starts; few = let q = long in let z = ok.room in omega arith; entries = h.places.entries; first = (h.places.first.0 ++ lit ∷ [], ap (λ (us : List Literal). us ++ lit ∷ []) h.places.first.1 ∙ append_assoc c.opening.units h.places.first.0 (lit ∷ [])); units = all_last (λ (x : Literal). (1 ≤ x.var) × (x.var ≤ l.vars)) c.units lit h.places.units (lit_vars 0 lit (omega arith)) })
+      (record { rings = h.places.rings; depth = h.places.depth; limit = h.places.limit; small = h.places.small; words = h.places.words; only = h.places.only; tiled = h.places.tiled; vars = h.places.vars; starts = h.places.starts; few = let q = long in let z = ok.room in omega arith; entries = h.places.entries; first = (h.places.first.0 ++ lit ∷ [], ap (λ (us : List Literal). us ++ lit ∷ []) h.places.first.1 ∙ append_assoc c.opening.units h.places.first.0 (lit ∷ [])); units = all_last (λ (x : Literal). (1 ≤ x.var) × (x.var ≤ l.vars)) c.units lit h.places.units (lit_vars 0 lit (omega arith)) })
       (list_words l c r lit h.glue s.words st ok.room word h.words)
       (record {
         opening = refl;

@@ -38,17 +38,29 @@ use Rattle.share_rule.specs.Layout.{InVars}
 use Rattle.share_rule.specs.Seen.{IsRefused}
 use Rattle.share_rule.specs.declared.view.Refusal.{Refusal}
 use Rattle.share_rule.specs.declared.view.Refusal.TheVariants.{Ended, Broken, ProofFault, NoHole}
-use Rattle.share_rule.specs.Room.{Room, with_clause, room_after, room, Places}
+use Rattle.clause_cell.specs.declared.holes.Hole.{Hole}
+use Rattle.share_rule.specs.Room.{Room, with_clause, without_words, freed, room_after, room, IsTiled, Places}
 use Rattle.share_rule.specs.Turns.{event_of, next_number, entry_of, noted_core, Sheet, noted, sheet_after, IsGoing, MayNote, AllNoted}
 use Rattle.share_rule.proofs.Lists.{all_more}
 use Rattle.share_core.proofs.Leaving.{left_sound, left_one}
 use Rattle.share_rule.proofs.Parts.{cell_below}
-use Rattle.share_rule.proofs.Rooms.{within_is, RoomSound, room_sound, room_more, freed_else}
+use Rattle.share_rule.proofs.Rooms.{within_is, RoomSound, room_sound, room_more, freed_else, placed_tiled, freed_tiled}
 use Rattle.share_rule.proofs.Tightness.{tight_more}
 use Rattle.share_rule.proofs.Sheets.{begins_long, waiting_clause, beside_same, beside_both, IsSheet, Noted, next_after, long_entry}
 
 abbrev with_ticket : Bool → Part → Part
 with_ticket t p = record p { ticket = t }
+
+none_by : (q : Option Hole) → ((r : Hole) → q ≡ Some r → ⊥) → q ≡ None
+none_by None h = refl
+none_by (Some r) h = absurd (h r refl)
+
+-- who has words once those of a number are free
+freed_some : (m : Room) (n k : ℕ) (q r : Hole) → m.words n ≡ Some r → (freed m n).words k ≡ Some q → (k ≢ n) × (m.words k ≡ Some q)
+freed_some m n k q r is h = at_put m.words n None (λ (z : Option Hole). z ≡ Some q → (k ≢ n) × (m.words k ≡ Some q)) k
+    (λ _ z. absurd (none_some q z))
+    (λ ne z. (ne, z))
+    ((λ i. (without_words n m (sym is i)).words k) ∙ h)
 
 module _ (l : Layout) (small : table_words l ≤ 2 ^ 63) (r : ℕ) where
   module _ (c : State) (glue : ℕ → ℕ) (s : Sheet) (left : Left c.opening c) (pl : Places l c) (lt : r < c.opening.rings) (turn : c.turn ≡ Some r) (sh : IsSheet c glue r s) where
@@ -96,6 +108,8 @@ module _ (l : Layout) (small : table_words l ≤ 2 ^ 63) (r : ℕ) where
         limit = pl.limit;
         small = pl.small;
         words = λ a x is. ap (λ (m : Room). m.words x.number) (room_next e ∙ free) ∙ pl.words a x is;
+        only = λ k q h. pl.only k q (ap (λ (m : Room). m.words k) (sym (room_next e ∙ free)) ∙ h);
+        tiled = subst (IsTiled l) (sym (room_next e ∙ free)) pl.tiled;
         vars = pl.vars;
         starts = pl.starts;
         entries = entries_next e on;
@@ -189,6 +203,12 @@ module _ (l : Layout) (small : table_words l ≤ 2 ^ 63) (r : ℕ) where
                 (λ here is. subst (λ (z : Cell). (room l o (c.journal ++ e ∷ [])).words z.number ≡ Some (range b (words_for (length z.lits)))) (some_same new y is)
                 (ap (λ (m : Room). m.words N) after_it ∙ put_here M.words N (Some (range a need)) ∙ ap (λ (q : ℕ). Some (range q need)) (sym here)))
                 (λ ne is. let low = cell_below c sound b y is in ap (λ (m : Room). m.words y.number) after_it ∙ put_else M.words N (Some (range a need)) y.number (λ q. omega arith) ∙ pl.words b y is);
+            only = λ k q h. at_put M.words N (Some (range a need)) (λ (z : Option Hole). z ≡ Some q → (x : Cell) × (put c.cell a (Some new) q.first ≡ Some x) × (x.number ≡ k)) k
+                (λ here is. (new, ap (put c.cell a (Some new)) (ap (λ (z : Hole). z.first) (sym (some_same (range a need) q is))) ∙ put_here c.cell a (Some new), sym here))
+                (λ _ is. (let t = pl.only k q is in (t.0, put_else c.cell a (Some new) q.first (λ z. none_some t.0 (sym free ∙ ap c.cell (sym z) ∙ t.1)) ∙ t.1, t.2)))
+                (ap (λ (m : Room). m.words k) (sym after_it) ∙ h);
+            tiled = subst (IsTiled l) (sym (room_next e ∙ long_entry M N lits r kind long))
+                (placed_tiled l small M N (length lits) rs (none_by (M.words N) (λ q is. (let t = pl.only N q is in let low = cell_below c sound q.first t.0 t.1 in let same = t.2 in omega (arith, low, same)))) pl.tiled);
             vars = λ b y. at_put c.cell a (Some new) (λ (q : Option Cell). q ≡ Some y → InVars l y.lits) b
                 (λ here is. subst (λ (z : Cell). InVars l z.lits) (some_same new y is) k.3)
                 (λ ne is. pl.vars b y is);
@@ -261,6 +281,12 @@ module _ (l : Layout) (small : table_words l ≤ 2 ^ 63) (r : ℕ) where
             words = λ b y. at_put c.cell a None (λ (q : Option Cell). q ≡ Some y → (room l o (c.journal ++ e ∷ [])).words y.number ≡ Some (range b (words_for (length y.lits)))) b
                 (λ here is. absurd (none_some y is))
                 (λ ne is. ap (λ (m : Room). m.words y.number) (room_next e) ∙ freed_else M n y.number (λ q. ne (sound.cells.own b a y x is there (q ∙ n_is))) ∙ pl.words b y is);
+            only = λ k q h.
+                (let was : M.words n ≡ Some (range a (words_for (length x.lits))) = ap M.words n_is ∙ pl.words a x there in
+                let old = freed_some M n k q (range a (words_for (length x.lits))) was (ap (λ (m : Room). m.words k) (sym (room_next e)) ∙ h) in
+                let t = pl.only k q old.1 in
+                (t.0, put_else c.cell a None q.first (λ z. old.0 (sym t.2 ∙ ap (λ (y : Cell). y.number) (some_same t.0 x (sym t.1 ∙ ap c.cell z ∙ there)) ∙ sym n_is)) ∙ t.1, t.2));
+            tiled = subst (IsTiled l) (sym (room_next e)) (freed_tiled l small M n (room_sound l small o c.journal) pl.tiled);
             vars = λ b y. at_put c.cell a None (λ (q : Option Cell). q ≡ Some y → InVars l y.lits) b
                 (λ here is. absurd (none_some y is))
                 (λ ne is. pl.vars b y is);

@@ -102,7 +102,7 @@ module _ {S : Type 0} (stands : S → BookOrigin → Layout → CoreOpening → 
   standing_of l s h = places_stand l h.small h.core (left_sound h.core.opening h.core h.left) h.places
 
   -- what the table shows, a view sees
-  pub seen_with : (l : Layout) (s : Table (Option S) View) (id : ℕ) (v : View) → (h : Shows stands l s) → get_elem? s.views id ≡ some v → is_ready v.stage ≡ true → (n : Seen v) × (n.core ≡ h.core)
+  pub seen_with : (l : Layout) (s : Table (Option S) View) (id : ℕ) (v : View) → (h : Shows stands l s) → get_elem? s.views id ≡ some v → is_ready v.stage ≡ true → (n : Seen v) × (n.core ≡ h.core) × (n.glue ≡ h.glue)
   seen_with l s id v h at op =
       let f = h.each id v at in
       let told = f.told op in (
@@ -117,6 +117,7 @@ module _ {S : Type 0} (stands : S → BookOrigin → Layout → CoreOpening → 
           stops = f.stops;
           parts = subst (λ (k : Layout). (i : ℕ) (p : RingPart) → get_elem? v.parts i ≡ some p → IsPart k h.core h.glue p) (sym told.0) f.parts;
         },
+        refl,
         refl,
       )
 

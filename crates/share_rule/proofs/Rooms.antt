@@ -11,18 +11,19 @@ use Rattle.clause_cell.specs.Free.{is_within, is_free, is_apart, is_clear, range
 use Rattle.clause_cell.proofs.Ranges.{parts, joined, taken_apart, taken_free, taken_busy, given_apart, given_free}
 use Rattle.rup_model.specs.declared.journal.Addition.{Addition}
 use Rattle.rup_model.specs.declared.journal.Entry.{Entry}
-use Rattle.rup_model.specs.declared.journal.Entry.TheVariants.{Add, Del, Reduce}
+use Rattle.rup_model.specs.declared.journal.Entry.TheVariants.{Add, Del, Reduce, Round}
 use Rattle.rup_model.specs.Basics.{put}
-use Rattle.rup_model.proofs.Sums.{at_put, put_else}
+use Rattle.rup_model.proofs.Sums.{at_put, put_here, put_else}
 use Rattle.share_core.specs.declared.part.CoreOpening.{CoreOpening}
 use Rattle.share_core.specs.declared.stored.ClauseAt.{ClauseAt}
+use Rattle.share_core.specs.declared.stored.Cell.{Cell}
 use Rattle.share_core.specs.State.{State}
 use Rattle.share_core.specs.Sound.{Sound}
 use Rattle.share_core.proofs.Counting.{some_same, none_some}
 use Rattle.share_rule.specs.declared.Layout.{Layout}
 use Rattle.share_rule.specs.Layout.{first_cell, cells_end, table_words}
 use Rattle.share_rule.specs.Seen.{Stands}
-use Rattle.share_rule.specs.Room.{Room, with_clause, placed, without_words, freed, with_addition, room_after, names, start_room, room, Places}
+use Rattle.share_rule.specs.Room.{Room, with_clause, placed, without_words, freed, with_addition, room_after, names, start_room, room, IsTiled, Places}
 
 or_true : (a b : Bool) → a ≡ true → (a || b) ≡ true
 or_true true b e = refl
@@ -35,6 +36,10 @@ or_parts false b e = inr e
 or_false : (a b : Bool) → (a || b) ≡ false → (a ≡ false) × (b ≡ false)
 or_false true b e = absurd (true≢false e)
 or_false false b e = (refl, e)
+
+bool_cases : (a : Bool) → (a ≡ true) ⊎ (a ≡ false)
+bool_cases true = inl refl
+bool_cases false = inr refl
 
 false_by : (a : Bool) → (a ≡ true → ⊥) → a ≡ false
 false_by true h = absurd (h refl)
@@ -73,7 +78,7 @@ pub record RoomSound (l : Layout) (m : Room) : Type 0 where
   pub own : (n k w : ℕ) (r q : Hole) → m.words n ≡ Some r → m.words k ≡ Some q → n ≢ k → is_within r.first r.len w ≡ true → is_within q.first q.len w ≡ false
 
 module _ (l : Layout) (small : table_words l ≤ 2 ^ 63) where
-  placed_sound : (m : Room) (n size : ℕ) → RoomSound l m → RoomSound l (placed m n size)
+  pub placed_sound : (m : Room) (n size : ℕ) → RoomSound l m → RoomSound l (placed m n size)
   placed_sound m n size s = by (first_fit (words_for size) m.holes) refl
     where
       need : ℕ
@@ -109,7 +114,7 @@ module _ (l : Layout) (small : table_words l ≤ 2 ^ 63) where
           or_second true y h = refl
           or_second false y h = h
 
-  freed_sound : (m : Room) (n : ℕ) → RoomSound l m → RoomSound l (freed m n)
+  pub freed_sound : (m : Room) (n : ℕ) → RoomSound l m → RoomSound l (freed m n)
   freed_sound m n s = by (m.words n) refl
     where
       by : (f : Option Hole) → m.words n ≡ f → RoomSound l (without_words n m f)
@@ -140,6 +145,44 @@ module _ (l : Layout) (small : table_words l ≤ 2 ^ 63) where
                 (λ _ y ne k. s.own i j w q x z y ne k));
           }
 
+  -- words that are not free stay some clause's
+
+  pub placed_tiled : (m : Room) (n size : ℕ) → RoomSound l m → m.words n ≡ None → IsTiled l m → IsTiled l (placed m n size)
+  placed_tiled m n size s new t = by (first_fit (words_for size) m.holes) refl
+    where
+      need : ℕ
+      need = words_for size
+
+      by : (f : Option ℕ) → first_fit need m.holes ≡ f → IsTiled l (with_clause n size m f)
+      by None e = t
+      by (Some a) e = λ w lo hi busy. ⊎_elim
+          (λ (k : is_within a need w ≡ true). (n, range a need, put_here m.words n (Some (range a need)), k))
+          (λ (k : is_within a need w ≡ false).
+          (let was : is_free m.holes w ≡ false = taken_free 0 need m.holes a w (omega arith) s.apart e ∙ (λ i. k i || busy i) in
+          let h = t w lo hi was in
+          (h.0, h.1, put_else m.words n (Some (range a need)) h.0 (λ q. none_some h.1 (sym new ∙ ap m.words (sym q) ∙ h.2)) ∙ h.2, h.3)))
+          (bool_cases (is_within a need w))
+
+  pub freed_tiled : (m : Room) (n : ℕ) → RoomSound l m → IsTiled l m → IsTiled l (freed m n)
+  freed_tiled m n s t = by (m.words n) refl
+    where
+      by : (f : Option Hole) → m.words n ≡ f → IsTiled l (without_words n m f)
+      by None e = t
+      by (Some r) e = λ w lo hi busy.
+          let at = s.some n r e in
+          let len = at.0 in
+          let clear : is_clear r.first r.len m.holes ≡ true = clear_of r.first r.len 0 m.holes s.apart len (λ v k. s.busy n v r e k) in
+          let both = or_false (is_within r.first r.len w) (is_free m.holes w) (sym (given_free 0 r.first r.len m.holes w len s.apart clear) ∙ busy) in
+          let h = t w lo hi both.1 in
+          (h.0, h.1, put_else m.words n None h.0 (λ q. true≢false (sym h.3 ∙ ap (λ (x : Hole). is_within x.first x.len w) (some_same h.1 r (sym h.2 ∙ ap m.words q ∙ e)) ∙ both.0)) ∙ h.2, h.3)
+
+  pub empty_tiled : IsTiled l (record { holes = whole (first_cell l) l.words; words = λ _. None })
+  empty_tiled w lo hi busy = absurd (true≢false (sym (all_free (eqb_tells l.words 0)) ∙ busy))
+    where
+      all_free : ((l.words == 0) ≡ true) × (l.words ≡ 0) ⊎ ((l.words == 0) ≡ false) × (l.words ≢ 0) → is_free (whole (first_cell l) l.words) w ≡ true
+      all_free (inl z) = absurd (let n = z.1 in omega arith)
+      all_free (inr z) = subst (λ (b : Bool). is_free (if b then [] else range (first_cell l) l.words ∷ []) w ≡ true) (sym z.0) (or_true (is_within (first_cell l) l.words w) false (within_is (first_cell l) l.words w lo hi))
+
   added_sound : (m : Room) (x : Addition) → RoomSound l m → RoomSound l (with_addition m (Some x))
   added_sound m x s = ⊎_elim
       (λ t. subst (λ (b : Bool). RoomSound l (if b then placed m x.number (length x.lits) else m)) (sym t.0) (placed_sound m x.number (length x.lits) s))
@@ -150,16 +193,17 @@ module _ (l : Layout) (small : table_words l ≤ 2 ^ 63) where
   after_sound m (Add x) s = added_sound m x s
   after_sound m (Del r n) s = freed_sound m n s
   after_sound m (Reduce r) s = s
+  after_sound m (Round x) s = s
 
   fold_sound : (J : List Entry) (m : Room) → RoomSound l m → RoomSound l (fold room_after m J)
   fold_sound [] m s = s
   fold_sound (e ∷ J) m s = fold_sound J (room_after m e) (after_sound m e s)
 
-  starts_sound : (ss : List ClauseAt) (m : Room) → RoomSound l m → RoomSound l (fold (λ m s. placed m s.number (length s.lits)) m ss)
+  pub starts_sound : (ss : List ClauseAt) (m : Room) → RoomSound l m → RoomSound l (fold (λ m s. placed m s.number (length s.lits)) m ss)
   starts_sound [] m s = s
   starts_sound (x ∷ ss) m s = starts_sound ss (placed m x.number (length x.lits)) (placed_sound m x.number (length x.lits) s)
 
-  empty_sound : RoomSound l (record { holes = whole (first_cell l) l.words; words = λ _. None })
+  pub empty_sound : RoomSound l (record { holes = whole (first_cell l) l.words; words = λ _. None })
   empty_sound = ⊎_elim
       (λ t. subst (λ (b : Bool). RoomSound l (record { holes = if b then [] else range (first_cell l) l.words ∷ []; words = λ _. None })) (sym t.0) (record {
         apart = refl;
@@ -207,6 +251,15 @@ module _ (l : Layout) (small : table_words l ≤ 2 ^ 63) where
     few = p.few;
   }
 
+-- a word that is not free is a cell's
+pub cell_of_word : (l : Layout) (c : State) → Places l c → (w : ℕ) → first_cell l ≤ w → w < cells_end l → is_free (room l c.opening c.journal).holes w ≡ false → (a : ℕ) × (x : Cell) × (c.cell a ≡ Some x) × (a ≤ w) × (w < a + words_for (length x.lits))
+cell_of_word l c p w lo hi busy =
+    let t = p.tiled w lo hi busy in
+    let x = p.only t.0 t.1 t.2 in
+    let is : range t.1.first (words_for (length x.0.lits)) ≡ t.1 = some_same (range t.1.first (words_for (length x.0.lits))) t.1 (sym (p.words t.1.first x.0 x.1) ∙ ap (room l c.opening c.journal).words x.2 ∙ t.2) in
+    let at = within_of t.1.first (words_for (length x.0.lits)) w (ap (λ (h : Hole). is_within h.first h.len w) is ∙ t.3) in
+    (t.1.first, x.0, x.1, at.0, at.1)
+
 -- Longer journals
 
 pub placed_else : (m : Room) (k size n : ℕ) → n ≢ k → (placed m k size).words n ≡ m.words n
@@ -233,6 +286,7 @@ words_else m (Add x) n none =
     (leb_tells 2 (length x.lits))
 words_else m (Del r k) n none = freed_else m k n (λ q. true≢false (sym (eq-eqb k n (sym q)) ∙ none))
 words_else m (Reduce r) n none = refl
+words_else m (Round x) n none = refl
 
 -- the layout folds on
 pub room_more : (l : Layout) (o : CoreOpening) (J K : List Entry) → length o.journal ≤ length J → room l o (J ++ K) ≡ fold room_after (room l o J) K

@@ -5,7 +5,7 @@ use Rattle.std.proofs.lemmas.Bool.Decides.{leb_tells}
 use Rattle.sat_words.specs.Literal.{Literal}
 use Rattle.rup_model.specs.declared.journal.Kind.{Kind}
 use Rattle.rup_model.specs.declared.journal.Entry.{Entry}
-use Rattle.rup_model.specs.declared.journal.Entry.TheVariants.{Add, Del, Reduce as ReduceEntry}
+use Rattle.rup_model.specs.declared.journal.Entry.TheVariants.{Add, Del, Reduce as ReduceEntry, Round}
 use Rattle.rup_model.specs.Journal.{Book}
 use Rattle.rup_model.proofs.Numbers.{book_last}
 use Rattle.share_core.specs.declared.stored.ClauseAt.{ClauseAt}
@@ -99,6 +99,7 @@ pub next_after : (o : CoreOpening) (J : List Entry) (e : Entry) → next_number 
 next_after o J (Add x) = let q = ap (λ (b : Book). b.next) (book_last o.formula J (Add x)) in omega arith
 next_after o J (Del r n) = let q = ap (λ (b : Book). b.next) (book_last o.formula J (Del r n)) in omega arith
 next_after o J (ReduceEntry r) = let q = ap (λ (b : Book). b.next) (book_last o.formula J (ReduceEntry r)) in omega arith
+next_after o J (Round x) = let q = ap (λ (b : Book). b.next) (book_last o.formula J (Round x)) in omega arith
 
 pub long_entry : (m : Room) (n : ℕ) (lits : List Literal) (r : ℕ) (kind : Kind) → 2 ≤ length lits → room_after m (Add (record { ring = r; number = n; lits = lits; kind = kind })) ≡ placed m n (length lits)
 long_entry m n lits r kind le = ⊎_elim

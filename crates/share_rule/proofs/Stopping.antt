@@ -131,7 +131,7 @@ module _ {S : Type 0} (stands : S → BookOrigin → Layout → CoreOpening → 
       let own : own_stop (ring_of p) d.stop ≡ Some t = ap (own_stop (ring_of p)) stop ∙ (λ i. if eq-eqb t.ring (ring_of p) mine_ring i then Some t else None) in
       moved stands l s h d h.glue id v (after_win code v) (set_part t p) (set s.words 1 code) s.homes at
       (left_one c.opening c (StopEvent r kind) h.left (rp, low, high, λ e. part.ended_is (refuted e)))
-      (record { rings = h.places.rings; depth = h.places.depth; limit = h.places.limit; small = h.places.small; words = h.places.words; vars = h.places.vars; starts = h.places.starts; entries = h.places.entries; units = h.places.units; few = h.places.few; first = h.places.first })
+      (record { rings = h.places.rings; depth = h.places.depth; limit = h.places.limit; small = h.places.small; words = h.places.words; only = h.places.only; tiled = h.places.tiled; vars = h.places.vars; starts = h.places.starts; entries = h.places.entries; units = h.places.units; few = h.places.few; first = h.places.first })
       (subst (λ (n : ℕ). Words l d h.glue (set s.words 1 n)) number (stop_words l c h.glue s.words d.stop st h.words))
       (record {
         opening = refl;

@@ -102,7 +102,7 @@ module _ {S : Type 0} (stands : S → BookOrigin → Layout → CoreOpening → 
       let knew : KnowsFault h.fault p = h.faults id v 0 p at (ap (λ ps. get_elem? ps 0) free_pass.0) in
       moved_with stands l s h d h.glue id v (after_take free new c.journal h.fault v) (take_part c.journal h.fault p) (set s.words 0 new) (set s.homes 0 maybe.none) at
       (left_one c.opening c (TakeTurn r) h.left (part.ring, none))
-      (record { rings = h.places.rings; depth = h.places.depth; limit = h.places.limit; small = h.places.small; words = h.places.words; vars = h.places.vars; starts = h.places.starts; entries = h.places.entries; units = h.places.units; few = h.places.few; first = h.places.first })
+      (record { rings = h.places.rings; depth = h.places.depth; limit = h.places.limit; small = h.places.small; words = h.places.words; only = h.places.only; tiled = h.places.tiled; vars = h.places.vars; starts = h.places.starts; entries = h.places.entries; units = h.places.units; few = h.places.few; first = h.places.first })
       (turn_words l c d h.glue h.glue s.words new st h.words new_is refl refl (λ _. refl) (λ _. refl) refl (λ a x is o. (is, refl)))
       (record {
         opening = refl;
@@ -236,7 +236,7 @@ module _ {S : Type 0} (stands : S → BookOrigin → Layout → CoreOpening → 
       let still : h.fault ≡ true → failed ≡ true = λ e. cause.1 (knew.taken writing.1.0 writing.1.1 e) in
       let next = moved_with stands l s h d all.glue' id v (after_give ns x failed v) (give_part v.opening (written_of v ns) x failed p) (set s.words 0 n) (set s.homes 0 (some (Some b))) at
       (left_one m.opening m (GiveTurn r) all.left (lt, turn))
-      (record { rings = all.places.rings; depth = all.places.depth; limit = all.places.limit; small = all.places.small; words = all.places.words; vars = all.places.vars; starts = all.places.starts; entries = all.places.entries; units = all.places.units; few = all.places.few; first = all.places.first })
+      (record { rings = all.places.rings; depth = all.places.depth; limit = all.places.limit; small = all.places.small; words = all.places.words; only = all.places.only; tiled = all.places.tiled; vars = all.places.vars; starts = all.places.starts; entries = all.places.entries; units = all.places.units; few = all.places.few; first = all.places.first })
       (turn_words l c d h.glue all.glue' s.words n st h.words n_is beside.stop beside.units beside.granted beside.slot beside.drawn
       (λ a y is o. let was = beside.open_cells a y is o in (was, beside.glue_else y.number (below a y was))))
       (record {

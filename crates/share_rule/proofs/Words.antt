@@ -92,6 +92,8 @@ module _ (l : Layout) (c : State) (st : Stands l c) (a n : ℕ) (x : Cell) (is :
     limit = pl.limit;
     small = pl.small;
     words = λ b y e. let o = was b y e in subst (λ (k : ℕ × List Literal). (room l c.opening c.journal).words k.0 ≡ Some (range b (words_for (length k.1)))) (λ i. (o.2 i, o.3 i)) (pl.words b o.0 o.1);
+    only = λ k q h. (let o = pl.only k q h in let z = now q.first o.0 o.1 in (z.0, z.1, z.2 ∙ o.2));
+    tiled = pl.tiled;
     vars = λ b y e. let o = was b y e in subst (λ k. InVars l k) o.3 (pl.vars b o.0 o.1);
     starts = pl.starts;
     entries = pl.entries;
@@ -105,6 +107,11 @@ module _ (l : Layout) (c : State) (st : Stands l c) (a n : ℕ) (x : Cell) (is :
           (λ (t : (b ≡ a) × (y ≡ record { lits = x.lits; number = x.number; count = n; maker = None })). (x, ap c.cell t.0 ∙ is, ap (λ (k : Cell). k.number) (sym t.1), ap (λ (k : Cell). k.lits) (sym t.1)))
           (λ (t : (b ≢ a) × (c.cell b ≡ Some y)). (y, t.1, refl, refl))
           (recount_cell c a n x is b y e)
+
+      now : (b : ℕ) (z : Cell) → c.cell b ≡ Some z → (y : Cell) × (put c.cell a (with_count n (c.cell a)) b ≡ Some y) × (y.number ≡ z.number)
+      now b z e = dite (ℕ_discrete b a)
+          (λ q. (record { lits = x.lits; number = x.number; count = n; maker = None }, ap (put c.cell a (with_count n (c.cell a))) q ∙ put_here c.cell a (with_count n (c.cell a)) ∙ ap (with_count n) is, ap (λ (k : Cell). k.number) (some_same x z (sym is ∙ ap c.cell (sym q) ∙ e))))
+          (λ ne. (z, put_else c.cell a (with_count n (c.cell a)) b ne ∙ e, refl))
 
   -- the words with the new count show the cell with it
   pub count_words : (glue : ℕ → ℕ) (ws : List ℕ) → Spells ws a x.number (glue x.number) x.lits → Words l c glue ws → Words l (recounted c r a n p) glue (set ws a n)

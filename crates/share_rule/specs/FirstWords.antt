@@ -10,7 +10,7 @@ use Rattle.clause_cell.specs.Free.{largest}
 use Rattle.rup_model.specs.declared.journal.TheConstants.{RULER_RING}
 use Rattle.rup_model.specs.declared.journal.Entry.{Entry}
 use Rattle.rup_model.specs.Journal.{ended}
-use Rattle.rup_model.specs.Opening.{Start, IsOpening, AreAscending}
+use Rattle.rup_model.specs.Opening.{Start, OpensAfter, AreAscending}
 use Rattle.share_core.specs.declared.event.TheConstants.{MAX_DEPTH}
 use Rattle.share_core.specs.declared.stored.ClauseAt.{ClauseAt}
 use Rattle.share_core.specs.declared.part.CoreOpening.{CoreOpening}
@@ -47,7 +47,7 @@ pub record MayBegin (F : List (List Literal)) (l : Layout) (J : List Entry) (ss 
   pub few_words : l.words ≤ 2 ^ 31
   pub some_slot : 1 ≤ l.depth
   pub few_slots : l.depth ≤ MAX_DEPTH
-  pub opens : IsOpening F (record { journal = J; starts = starts_of ss; units = us })
+  pub opens : OpensAfter F (record { journal = J; starts = starts_of ss; units = us })
   pub ascending : AreAscending (starts_of ss)
   pub going : ended F J ≡ false
   pub few_entries : length J ≤ MAX_ENTRIES

@@ -14,6 +14,7 @@ pub mod TurnsTold
 pub mod Units
 pub mod UnitsTold
 pub mod Passes
+pub mod Rests
 pub mod FirstWords
 pub mod Exchanges
 pub mod ExchangesTold

@@ -1,10 +1,10 @@
 -- Where clauses lie: a fold over the entries of a journal.
 use Rattle.std.specs.Option.{option_map}
-use Rattle.std.specs.Prelude.{◌≡◌, ◌≤◌, ◌++◌, ◌^◌, ◌||◌, Bool, ℕ, ◌*◌, List, length, drop, fold, All, Option, Some, None, if◌then◌else◌, nat_le}
+use Rattle.std.specs.Prelude.{◌≡◌, ◌≤◌, ◌<◌, ◌++◌, ◌^◌, ◌||◌, Bool, true, false, ℕ, ◌*◌, List, length, drop, fold, All, Option, Some, None, if◌then◌else◌, nat_le}
 use Rattle.sat_words.specs.Literal.{Literal}
 use Rattle.clause_cell.specs.declared.holes.Hole.{Hole}
 use Rattle.clause_cell.specs.Packing.{words_for}
-use Rattle.clause_cell.specs.Free.{range, whole, first_fit, without_fit, with_range}
+use Rattle.clause_cell.specs.Free.{is_within, is_free, range, whole, first_fit, without_fit, with_range}
 use Rattle.rup_model.specs.declared.journal.Addition.{Addition}
 use Rattle.rup_model.specs.declared.journal.Entry.{Entry}
 use Rattle.rup_model.specs.Basics.{put}
@@ -14,7 +14,7 @@ use Rattle.share_core.specs.declared.part.CoreOpening.{CoreOpening}
 use Rattle.share_core.specs.declared.stored.Cell.{Cell}
 use Rattle.share_core.specs.State.{State}
 use Rattle.share_rule.specs.declared.Layout.{Layout}
-use Rattle.share_rule.specs.Layout.{first_cell, InVars}
+use Rattle.share_rule.specs.Layout.{first_cell, cells_end, InVars}
 
 -- the free words, and the words of each clause by its number
 pub record Room : Type 0 where
@@ -65,7 +65,11 @@ start_room l ss = fold (λ m s. placed m s.number (length s.lits)) (record { hol
 abbrev pub room : Layout → CoreOpening → List Entry → Room
 room l o J = fold room_after (start_room l o.starts) (drop (length o.journal) J)
 
--- cells lie if their clauses do; their literals, those of the rings' additions and those of the listed units are on the
+-- each word for cells that is not free is one of some clause's
+abbrev pub IsTiled : Layout → Room → Type 0
+IsTiled l m = (w : ℕ) → first_cell l ≤ w → w < cells_end l → is_free m.holes w ≡ false → (n : ℕ) × (r : Hole) × (m.words n ≡ Some r) × (is_within r.first r.len w ≡ true)
+
+-- cells lie if their clauses do, and no other clauses have words; their literals, those of the rings' additions and those of the listed units are on the
 -- layout's variables, which are no more than a proof may name; the units that were listed from the start stand first, and
 -- there are no more than two a variable
 pub record Places (l : Layout) (c : State) : Type 0 where
@@ -74,6 +78,8 @@ pub record Places (l : Layout) (c : State) : Type 0 where
   pub limit : l.conflicts ≡ c.opening.limit
   pub small : l.vars ≤ 2 ^ 30
   pub words : (a : ℕ) (x : Cell) → c.cell a ≡ Some x → (room l c.opening c.journal).words x.number ≡ Some (range a (words_for (length x.lits)))
+  pub only : (n : ℕ) (r : Hole) → (room l c.opening c.journal).words n ≡ Some r → (x : Cell) × (c.cell r.first ≡ Some x) × (x.number ≡ n)
+  pub tiled : IsTiled l (room l c.opening c.journal)
   pub vars : (a : ℕ) (x : Cell) → c.cell a ≡ Some x → InVars l x.lits
   pub starts : All (λ s. InVars l s.lits) c.opening.starts
   pub entries : All (InVars l) (added (drop (length c.opening.journal) c.journal))

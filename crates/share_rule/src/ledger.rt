@@ -1,6 +1,7 @@
 //! What the rule knows of the book of the log.
 ghost use Rattle.std.specs.Prelude.{◌≡◌, false, List};
 ghost use Rattle.sat_words.specs.Literal.{Literal};
+ghost use Rattle.clause_cell.specs.Free.{len_from};
 ghost use Rattle.rup_model.specs.declared.journal.Entry.{Entry};
 ghost use Rattle.share_rule.specs.declared.Layout.{Layout};
 ghost use Rattle.share_rule.specs.declared.view.BookOrigin.{BookOrigin};
@@ -28,6 +29,14 @@ pub trait Ledger {
     /// How many entries stand in the log.
     fn entries(&self) -> u64
         ensures { result ≡ (account self.now).entries };
+
+    /// Whether a write of it has failed.
+    fn is_broken(&self) -> bool
+        ensures { result ≡ (account self.now).broken };
+
+    /// The length of the longest run of free words that begins at this word, if one does.
+    fn hole_from(&self, first: u64) -> Option<u64>
+        ensures { result ≡ len_from first (account self.now).holes };
 
     /// Takes the words that are free for cells. From here on it says whether the log is ended, which it is not.
     fn with_holes(self, holes: Holes) -> Self

@@ -18,6 +18,7 @@ mod note;
 mod passes;
 mod places;
 mod plays;
+mod rests;
 mod room_laws;
 mod rule;
 mod ticket_laws;
@@ -32,7 +33,7 @@ ghost use Rattle.std.specs.Prelude.{◌≡◌, ◌≤◌, ◌^◌};
 ghost use Rattle.share_rule.specs.Layout.{table_words};
 
 use atomic_table::Table;
-pub use closing::close;
+pub use closing::{ClosedTable, close, close_round};
 pub use exchange_laws::{
     a_get_is_its_event, a_look_at_the_stop_is_no_event, a_put_is_its_event, a_stop_is_its_event,
     a_stop_is_of_one_ring,
@@ -49,6 +50,7 @@ pub use making::{MakeStop, make};
 pub use note::Note;
 pub use passes::{join, split};
 pub use plays::{Drops, Grants, Loads, Looks, Opens, Shares, Stores};
+pub use rests::Rest;
 pub use room_laws::{
     a_noted_want_of_room_is_one, a_turn_without_a_hole_is_tight, longer_journals_stay_tight,
     the_room_is_of_the_starts,

@@ -6,7 +6,7 @@ use Rattle.std.specs.Option.{option_map}
 use Rattle.sat_words.specs.Literal.{Literal, IsOn}
 use Rattle.sat_words.specs.Clause.{InOrder, clause_of}
 use Rattle.sat_words.proofs.Canonical.{same_clause}
-use Rattle.sat_words.proofs.Insertion.{InOrder-clause_of}
+use Rattle.sat_words.proofs.Insertion.{InOrder-clause_of, clause_of_in_order}
 use Rattle.sat_words.specs.FormulaData.{FormulaData}
 use Rattle.rup_model.specs.Journal.{formula_clause, is_told}
 use Rattle.rup_model.proofs.Lists.{In, In_Contains, Contains_In}
@@ -18,6 +18,7 @@ use Rattle.drat_text.proofs.JournalLines.{has_text_begun}
 use Rattle.simp_base.specs.WorkState.{IsWork, lists, numbered, begun, is_unit}
 use Rattle.simp_base.specs.Log.{Stands}
 use Rattle.simp_base.proofs.Keeping.{clause_of_on}
+use Rattle.simp_base.proofs.Order.{held_ordered}
 use Rattle.simp_base.proofs.Steps.{unit_alive}
 
 -- one more clause
@@ -74,9 +75,12 @@ begun_stands F out unspent blank last = record {
   rulers = λ k d lt. absurd (omega arith);
   on = λ k d lt. absurd (omega arith);
   ended = refl;
-  held = λ n c h. (let t = held_from 1 F.clauses n c (Contains_In (numbered 1 F.clauses) (n, c) h) in let e : n ≡ suc t.0 = (let z = t.1 in omega arith) in ap (formula_clause F.clauses) e ∙ t.2);
-  ordered = λ n c h. (let t = held_from 1 F.clauses n c (Contains_In (numbered 1 F.clauses) (n, c) h) in in_order (slice_get F.clauses t.0) c t.2);
-  all = λ n c is. inl (all n c is);
+  held = λ n c h. (
+      let t = held_from 1 F.clauses n c (Contains_In (numbered 1 F.clauses) (n, c) h) in
+      let e : n ≡ suc t.0 = (let z = t.1 in omega arith) in
+      ap (λ (m : ℕ). option_map clause_of (formula_clause F.clauses m)) e ∙ ap (option_map clause_of) t.2
+      ∙ ap (λ (d : List Literal). Some d) (clause_of_in_order c (held_ordered (slice_get F.clauses t.0) c t.2)));
+  all = λ n c is. inl (subst (λ (d : List Literal). Contains (numbered 1 F.clauses) (n, d)) (sym (clause_of_in_order c (in_order n c is))) (all n c is));
   told = λ k d lt. absurd (omega arith);
   every = every;
   lines = record {
@@ -93,9 +97,9 @@ begun_stands F out unspent blank last = record {
     all zero c is = absurd (cc)
     all (suc i) c is = let e : 1 + i ≡ suc i = omega arith in In_Contains (numbered 1 F.clauses) (suc i, c) (subst (λ j. In (j, c) (numbered 1 F.clauses)) e (all_from 1 F.clauses i c is))
 
-    in_order : (found : Option (List Literal)) (c : List Literal) → option_map clause_of found ≡ Some c → InOrder c
-    in_order None c is = absurd (cc)
-    in_order (Some d) c is = let e : clause_of d ≡ c = cc in subst InOrder e (InOrder-clause_of d)
+    in_order : (n : ℕ) (c : List Literal) → formula_clause F.clauses n ≡ Some c → InOrder c
+    in_order zero c is = absurd (cc)
+    in_order (suc i) c is = held_ordered (slice_get F.clauses i) c is
 
     every : (l : Literal) → is_told F.clauses [] l ≡ true → is_unit (begun F out) l ≡ true
     every l t =
@@ -103,7 +107,7 @@ begun_stands F out unspent blank last = record {
         let there : Contains (numbered 1 F.clauses) (u.0, u.1) = all u.0 u.1 u.2 in
         let found = held_from 1 F.clauses u.0 u.1 (Contains_In (numbered 1 F.clauses) (u.0, u.1) there) in
         unit_alive (begun F out) u.0 u.1 l there
-        (sym (same_clause (l ∷ []) u.1 (InOrder-clause_of (l ∷ [])) (in_order (slice_get F.clauses found.0) u.1 found.2) (same_has (l ∷ []) u.1 u.3)))
+        (sym (same_clause (l ∷ []) u.1 (InOrder-clause_of (l ∷ [])) (held_ordered (slice_get F.clauses found.0) u.1 found.2) (same_has (l ∷ []) u.1 u.3)))
 
 -- a copy of a clause of the formula is on the variables
 pub copy_on : (vars : ℕ) (F : List (List Literal)) (i : ℕ) (x copy : List Literal) → All (All (IsOn vars)) F → i < length F → x ≡ get_or F i x → copy ≡ clause_of x → All (IsOn vars) copy

@@ -32,7 +32,7 @@ clause_of_on vars lits all =
     In_All (IsOn vars) (clause_of lits) (λ l i. All_In (IsOn vars) lits l all (has_In lits l (has_same (clause_of lits) lits l (same_back lits (clause_of lits) (same_set-clause_of lits)) (In_has (clause_of lits) l i))))
 
 -- one number more, which is above those given
-numbers_more : (cs : List (ℕ × List Literal)) (last number : ℕ) (c : List Literal) → HaveOwnNumbers cs → All (λ x. x.0 ≤ last) cs → last < number → HaveOwnNumbers (cs ++ (number, c) ∷ [])
+pub numbers_more : (cs : List (ℕ × List Literal)) (last number : ℕ) (c : List Literal) → HaveOwnNumbers cs → All (λ x. x.0 ≤ last) cs → last < number → HaveOwnNumbers (cs ++ (number, c) ∷ [])
 numbers_more [] last number c own given lt i j d ij jl q = absurd (omega arith)
 numbers_more (x ∷ cs) last number c own given lt zero zero d ij jl q = absurd (omega arith)
 numbers_more (x ∷ cs) last number c own given lt (suc i) zero d ij jl q = absurd (omega arith)

@@ -19,3 +19,4 @@ pub mod WiderClauses
 pub mod Validity
 pub mod Resuming
 pub mod Widening
+pub mod Order

@@ -7,13 +7,13 @@ use Rattle.std.proofs.lemmas.Bool.{and_from, false≢true, or_left, or_right, or
 use Rattle.std.proofs.lemmas.List.Elements.{All-append}
 use Rattle.std.proofs.lemmas.List.Folds.{list_any-append}
 use Rattle.sat_words.specs.Literal.{Literal, IsOn}
-use Rattle.sat_words.specs.Clause.{has, InOrder, same_set, is_empty, clause_of, two_or_more}
+use Rattle.sat_words.specs.Clause.{has, same_set, is_empty, clause_of, two_or_more}
 use Rattle.sat_words.proofs.Canonical.{same_clause}
 use Rattle.sat_words.proofs.Members.{same-refl}
 use Rattle.sat_words.specs.declared.line.Line.{Line}
 use Rattle.sat_words.specs.declared.line.Line.TheVariants.{Add as AddLine, Del as DelLine}
 use Rattle.rup_model.specs.declared.journal.Entry.{Entry}
-use Rattle.rup_model.specs.declared.journal.Entry.TheVariants.{Add, Del, Reduce}
+use Rattle.rup_model.specs.declared.journal.Entry.TheVariants.{Add, Del, Reduce, Round}
 use Rattle.rup_model.specs.Basics.{put}
 use Rattle.rup_model.specs.Rup.{rup}
 use Rattle.rup_model.specs.Log.{Accepted, alive, is_valid, lits_of}
@@ -24,10 +24,11 @@ use Rattle.sat_words.proofs.Insertion.{same_set-clause_of, InOrder-clause_of, ha
 use Rattle.simp_base.proofs.Keeping.{only_told}
 use Rattle.rup_model.proofs.Sums.{put_here, put_else, at_put}
 use Rattle.rup_model.proofs.Sequences.{each_last}
-use Rattle.rup_model.proofs.Covers.{same_self, same_back, same_has}
+use Rattle.rup_model.proofs.Covers.{same_self, same_back, same_chain, same_has}
+use Rattle.rup_model.proofs.Respelling.{respelled_from}
 use Rattle.rup_model.proofs.Copies.{copies_any}
-use Rattle.rup_model.proofs.Units.{two_more}
-use Rattle.rup_model.proofs.Numbers.{spelled_same, journal_matches, clause_below, clause_copies, book_last, lines_last}
+use Rattle.rup_model.proofs.Units.{two_more, two_same}
+use Rattle.rup_model.proofs.Numbers.{spelled_same, journal_matches, clause_below, same_copies_alive, book_last, lines_last}
 use Rattle.rup_model.proofs.Additions.{added-append, told_more}
 use Rattle.drat_text.specs.LineState.{LineState, last_after}
 use Rattle.drat_text.specs.LineOut.{PutLine, FailedLine, with_line}
@@ -41,6 +42,7 @@ use Rattle.simp_base.specs.WorkState.{WorkState, IsWork, known, lists, is_only, 
 use Rattle.simp_base.specs.Log.{journal_of, IsPassedOver, Stands, HasLines, Continues}
 use Rattle.simp_base.specs.Calls.{ruler_adds, ruler_deletes, on_ok, NotPut, WasAdded, WasDeleted, IsListed, WasListed, entries_for, unit_entries}
 use Rattle.simp_base.proofs.Lists.{All_In, one_All, Contains_left, Contains_last, Contains_apart}
+use Rattle.simp_base.proofs.Order.{in_book, order_same, order_twice}
 use Rattle.simp_base.proofs.Validity.{left_alive, IsValidOver, rup_valid}
 
 or_none : (b : Bool) → (b || false) ≡ b
@@ -85,7 +87,7 @@ long_unit : (c : List Literal) (l : Literal) → two_or_more c ≡ true → c �
 long_unit c l two is = false≢true (ap two_or_more (sym is) ∙ two)
 
 -- the last clause that was added, or the others
-told_apart : (G : List (List Literal)) (L : List Entry) (lits : List Literal) (K : List Entry) → added K ≡ added L ++ lits ∷ [] → (l : Literal) → is_told G K l ≡ true → (is_told G L l ≡ true) ⊎ (same_set (l ∷ []) lits ≡ true)
+pub told_apart : (G : List (List Literal)) (L : List Entry) (lits : List Literal) (K : List Entry) → added K ≡ added L ++ lits ∷ [] → (l : Literal) → is_told G K l ≡ true → (is_told G L l ≡ true) ⊎ (same_set (l ∷ []) lits ≡ true)
 told_apart G L lits K is l t =
     let u = In_any (same_set (l ∷ [])) (G ++ added K) t in
     elim (In_append (G ++ added L) (lits ∷ []) u.0 (subst (In u.0) (ap (λ (H : List (List Literal)). G ++ H) is ∙ sym (append_assoc G (added L) (lits ∷ []))) u.1)) as (λ _. (is_told G L l ≡ true) ⊎ (same_set (l ∷ []) lits ≡ true)) [
@@ -151,7 +153,6 @@ module _ (o : Origin) (mine : List Entry) (w : WorkState) (h : Stands o mine w) 
           on = h.on;
           ended = h.ended;
           held = h.held;
-          ordered = h.ordered;
           all = h.all;
           told = h.told;
           every = h.every;
@@ -199,35 +200,32 @@ module _ (o : Origin) (mine : List Entry) (w : WorkState) (h : Stands o mine w) 
     book_is : book FA (journal_of o (mine ++ ea ∷ [])) ≡ record { clause = put (book FA JA).clause (book FA JA).next (Some (clause_of lits)); next = suc (book FA JA).next }
     book_is = book_next o mine w h ea (AddLine lits)
 
-    held_next : (n : ℕ) (c : List Literal) → Contains (w.clauses ++ (number, clause_of lits) ∷ []) (n, c) → (book FA (journal_of o (mine ++ ea ∷ []))).clause n ≡ Some c
+    held_next : (n : ℕ) (c : List Literal) → Contains (w.clauses ++ (number, clause_of lits) ∷ []) (n, c) → option_map clause_of ((book FA (journal_of o (mine ++ ea ∷ []))).clause n) ≡ Some c
     held_next n c k =
-        ap (λ (b : Book). b.clause n) book_is
+        ap (λ (b : Book). option_map clause_of (b.clause n)) book_is
         ∙ ⊎_elim
         (λ (old : Contains w.clauses (n, c)).
         (let is = h.held n c old in
-        let lt = clause_below (book FA JA) (alive FA (lines FA JA)) n c (journal_matches FA JA h.sound.fits) is in
-        put_else (book FA JA).clause (book FA JA).next (Some (clause_of lits)) n (λ q. omega arith) ∙ is))
+        let t = in_book ((book FA JA).clause n) c is in
+        let lt = clause_below (book FA JA) (alive FA (lines FA JA)) n t.0 (journal_matches FA JA h.sound.fits) t.1 in
+        ap (option_map clause_of) (put_else (book FA JA).clause (book FA JA).next (Some (clause_of lits)) n (λ q. omega arith)) ∙ is))
         (λ (q : (number, clause_of lits) ≡ (n, c)).
         (let a : number ≡ n = ap (λ (p : ℕ × List Literal). p.0) q in
         let b : clause_of lits ≡ c = ap (λ (p : ℕ × List Literal). p.1) q in
-        ap (put (book FA JA).clause (book FA JA).next (Some (clause_of lits))) (sym a ∙ next) ∙ put_here (book FA JA).clause (book FA JA).next (Some (clause_of lits)) ∙ ap Some b))
+        ap (λ (m : ℕ). option_map clause_of (put (book FA JA).clause (book FA JA).next (Some (clause_of lits)) m)) (sym a ∙ next)
+        ∙ ap (option_map clause_of) (put_here (book FA JA).clause (book FA JA).next (Some (clause_of lits)))
+        ∙ ap (λ (d : List Literal). Some d) (order_twice lits ∙ b)))
         (Contains_apart w.clauses (number, clause_of lits) (n, c) k)
 
-    ordered_next : (n : ℕ) (c : List Literal) → Contains (w.clauses ++ (number, clause_of lits) ∷ []) (n, c) → InOrder c
-    ordered_next n c k =
-        ⊎_elim
-        (λ (old : Contains w.clauses (n, c)). h.ordered n c old)
-        (λ (q : (number, clause_of lits) ≡ (n, c)). subst InOrder (ap (λ (p : ℕ × List Literal). p.1) q) (InOrder-clause_of lits))
-        (Contains_apart w.clauses (number, clause_of lits) (n, c) k)
-
-    all_next : (n : ℕ) (c : List Literal) → (book FA (journal_of o (mine ++ ea ∷ []))).clause n ≡ Some c → Contains (w.clauses ++ (number, clause_of lits) ∷ []) (n, c) ⊎ IsPassedOver w.unheld c
+    all_next : (n : ℕ) (c : List Literal) → (book FA (journal_of o (mine ++ ea ∷ []))).clause n ≡ Some c → Contains (w.clauses ++ (number, clause_of lits) ∷ []) (n, clause_of c) ⊎ IsPassedOver w.unheld c
     all_next n c is =
-        at_put (book FA JA).clause (book FA JA).next (Some (clause_of lits)) (λ q. q ≡ Some c → Contains (w.clauses ++ (number, clause_of lits) ∷ []) (n, c) ⊎ IsPassedOver w.unheld c) n
+        at_put (book FA JA).clause (book FA JA).next (Some (clause_of lits)) (λ q. q ≡ Some c → Contains (w.clauses ++ (number, clause_of lits) ∷ []) (n, clause_of c) ⊎ IsPassedOver w.unheld c) n
         (λ here is_new.
         (let a : n ≡ number = here ∙ sym next in
-        let b : clause_of lits ≡ c = cc in
+        let same_c : clause_of lits ≡ c = cc in
+        let b : clause_of lits ≡ clause_of c = sym (order_twice lits) ∙ ap clause_of same_c in
         inl (subst (λ (p : ℕ × List Literal). Contains (w.clauses ++ (number, clause_of lits) ∷ []) p) (λ i. (sym a i, b i)) (Contains_last w.clauses (number, clause_of lits)))))
-        (λ else is_old. elim (h.all n c is_old) as (λ _. Contains (w.clauses ++ (number, clause_of lits) ∷ []) (n, c) ⊎ IsPassedOver w.unheld c) [ inl i ↦ inl (Contains_left w.clauses ((number, clause_of lits) ∷ []) (n, c) i) | inr p ↦ inr p ])
+        (λ else is_old. elim (h.all n c is_old) as (λ _. Contains (w.clauses ++ (number, clause_of lits) ∷ []) (n, clause_of c) ⊎ IsPassedOver w.unheld c) [ inl i ↦ inl (Contains_left w.clauses ((number, clause_of lits) ∷ []) (n, clause_of c) i) | inr p ↦ inr p ])
         (sym (ap (λ (b : Book). b.clause n) book_is) ∙ is)
 
     -- a unit more, if the clause is one
@@ -245,7 +243,6 @@ module _ (o : Origin) (mine : List Entry) (w : WorkState) (h : Stands o mine w) 
       on = subst (λ G. All (All (IsOn w.vars)) G) (sym (added-append mine (ea ∷ []))) (All-append (All (IsOn w.vars)) (added mine) (lits ∷ []) h.on (one_All (All (IsOn w.vars)) lits on));
       ended = ended_next;
       held = held_next;
-      ordered = ordered_next;
       all = all_next;
       told = all_told_next o mine w h ea (AddLine lits);
       every = every_next;
@@ -268,17 +265,21 @@ module _ (o : Origin) (mine : List Entry) (w : WorkState) (h : Stands o mine w) 
   abbrev ed : Entry
   ed = ruler_deletes number
 
-  c_is : (book FD JD).clause number ≡ Some c
-  c_is = h.held number c alive_c
+  -- the clause as the book has it
+  there : (d : List Literal) × ((book FD JD).clause number ≡ Some d) × (clause_of d ≡ c)
+  there = in_book ((book FD JD).clause number) c (h.held number c alive_c)
+
+  alike : same_set c there.0 ≡ true
+  alike = order_same c there.0 there.2
 
   pub one_del : lines_after (book FD JD) ed ≡ DelLine c ∷ []
-  one_del = ap (λ q. DelLine (unwrap_or q []) ∷ []) c_is
+  one_del = ap (λ q. DelLine (clause_of (unwrap_or q [])) ∷ []) there.1 ∙ ap (λ (d : List Literal). DelLine d ∷ []) there.2
 
   pub valid_del : is_valid (alive FD (lines FD JD)) (DelLine c) ≡ true
-  valid_del = and_from _ _ (copies_any c (alive FD (lines FD JD)) (clause_copies (book FD JD) (alive FD (lines FD JD)) number c (journal_matches FD JD h.sound.fits) c_is)) (two_more c two)
+  valid_del = and_from _ _ (copies_any c (alive FD (lines FD JD)) (same_copies_alive (book FD JD) (alive FD (lines FD JD)) number c there.0 (journal_matches FD JD h.sound.fits) there.1 alike)) (two_more c two)
 
   pub fit_del : IsFit (book FD JD) ed
-  fit_del = record { numbered = tt; names = (c, c_is, two) }
+  fit_del = record { numbered = tt; names = (there.0, there.1, two_same c there.0 alike two) }
 
   added_same : added (journal_of o (mine ++ ed ∷ [])) ≡ added JD
   added_same = ap added (grown_is o mine w h ed (DelLine c)) ∙ added-append JD (ed ∷ []) ∙ append-nil (added JD)
@@ -303,12 +304,11 @@ module _ (o : Origin) (mine : List Entry) (w : WorkState) (h : Stands o mine w) 
       rulers = All-append (λ y. is_rulers y ≡ true) mine (ed ∷ []) h.rulers (one_All (λ y. is_rulers y ≡ true) ed refl);
       on = subst (λ G. All (All (IsOn w.vars)) G) (sym (added-append mine (ed ∷ []) ∙ append-nil (added mine))) h.on;
       ended = h.ended ∙ ap (list_any is_empty) (sym added_same);
-      held = λ n d k. (let was = (others n d).0 k in book_less n ∙ put_else (book FD JD).clause number None n was.1 ∙ h.held n d was.0);
-      ordered = λ n d k. h.ordered n d ((others n d).0 k).0;
+      held = λ n d k. (let was = (others n d).0 k in ap (option_map clause_of) (book_less n ∙ put_else (book FD JD).clause number None n was.1) ∙ h.held n d was.0);
       all = λ n d is.
-          at_put (book FD JD).clause number None (λ q. q ≡ Some d → Contains cs (n, d) ⊎ IsPassedOver w.unheld d) n
+          at_put (book FD JD).clause number None (λ q. q ≡ Some d → Contains cs (n, clause_of d) ⊎ IsPassedOver w.unheld d) n
           (λ here none. absurd (cc))
-          (λ else is_old. elim (h.all n d is_old) as (λ _. Contains cs (n, d) ⊎ IsPassedOver w.unheld d) [ inl i ↦ inl ((others n d).1 (i, else)) | inr p ↦ inr p ])
+          (λ else is_old. elim (h.all n d is_old) as (λ _. Contains cs (n, clause_of d) ⊎ IsPassedOver w.unheld d) [ inl i ↦ inl ((others n (clause_of d)).1 (i, else)) | inr p ↦ inr p ])
           (sym (book_less n) ∙ is);
       told = all_told_next o mine w h ed (DelLine c);
       every = every_left;
@@ -400,6 +400,10 @@ comes_step b K (Del r k) h n c =
     (λ _ is. absurd (cc))
     (λ _ is. (let t = h n c is in (t.0, In_append_left K [] t.0 t.1, t.2)))
 comes_step b K (Reduce r) h n c = λ is. let t = h n c is in (t.0, In_append_left K [] t.0 t.1, t.2)
+comes_step b K (Round x) h n c = λ is. elim (respelled_from x.starts b.clause n c is) as (λ _. (d : List Literal) × In d (K ++ []) × (same_set c d ≡ true)) [
+  | inl kept ↦ (let t = h n c kept in (t.0, In_append_left K [] t.0 t.1, t.2))
+  | inr q ↦ (let t = h n q.1 q.2 in (t.0, In_append_left K [] t.0 t.1, same_chain c q.1 t.0 (order_same c q.1 q.3) t.2))
+]
 
 comes_all : (b : Book) (K : List (List Literal)) (L : List Entry) → Comes b K → Comes (fold book_after b L) (K ++ added L)
 comes_all b K [] h = subst (Comes b) (sym (append-nil K)) h
@@ -425,9 +429,9 @@ alive_told o mine w h l alive =
     let t = In_any (is_only l) (lists w.clauses) alive in
     let u = map_In (λ (x : ℕ × List Literal). x.1) w.clauses t.0 t.1 in
     let one : u.0.1 ≡ l ∷ [] = u.2 ∙ only_told l t.0 t.2 in
-    let is = h.held u.0.0 u.0.1 (In_Contains w.clauses u.0 u.1) in
-    let v = alive_comes o.formula (journal_of o mine) u.0.0 u.0.1 is in
-    any_In (same_set (l ∷ [])) (o.formula ++ added (journal_of o mine)) v.0 v.1 (subst (λ q. same_set q v.0 ≡ true) one v.2)
+    let there = in_book ((book o.formula (journal_of o mine)).clause u.0.0) u.0.1 (h.held u.0.0 u.0.1 (In_Contains w.clauses u.0 u.1)) in
+    let v = alive_comes o.formula (journal_of o mine) u.0.0 there.0 there.1 in
+    any_In (same_set (l ∷ [])) (o.formula ++ added (journal_of o mine)) v.0 v.1 (same_chain (l ∷ []) there.0 v.0 (order_same (l ∷ []) there.0 (there.2 ∙ one)) v.2)
 
 -- one unit more, which is known
 stands_listed : (o : Origin) (mine : List Entry) (w : WorkState) → Stands o mine w → (l : Literal) → is_told o.formula (journal_of o mine) l ≡ true → Stands o mine (record w { units = w.units ++ l ∷ [] })
@@ -437,7 +441,6 @@ stands_listed o mine w h l t = record {
   on = h.on;
   ended = h.ended;
   held = h.held;
-  ordered = h.ordered;
   all = h.all;
   every = λ k e. listed_more w l k (h.every k e);
   told = All-append (λ k. is_told o.formula (journal_of o mine) k ≡ true) w.units (l ∷ []) h.told (one_All (λ k. is_told o.formula (journal_of o mine) k ≡ true) l t);
@@ -492,7 +495,6 @@ stands_pushed o mine w h S = nothing_more o mine (record w { stack = S }) (recor
   on = h.on;
   ended = h.ended;
   held = h.held;
-  ordered = h.ordered;
   all = h.all;
   told = h.told;
   every = h.every;

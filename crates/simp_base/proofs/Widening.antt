@@ -49,7 +49,6 @@ module _ (w : WorkState) (u : ℕ) (le : w.vars ≤ u) where
     on = each_on_wider w.vars u le _ h.on;
     ended = h.ended;
     held = h.held;
-    ordered = h.ordered;
     all = h.all;
     told = h.told;
     every = h.every;

@@ -21,7 +21,7 @@ negated_more c d more l h =
     let t = map_In opposite c l (has_In (map opposite c) l h) in
     In_has (map opposite d) l (subst (λ (x : Literal). In x (map opposite d)) t.2 (In_map opposite d t.0 (has_In d t.0 (more t.0 (In_has c t.0 t.1)))))
 
-opposites_more : (c d : List Literal) → HasAll c d → has_opposites c ≡ true → has_opposites d ≡ true
+pub opposites_more : (c d : List Literal) → HasAll c d → has_opposites c ≡ true → has_opposites d ≡ true
 opposites_more c d more h =
     let t = In_any (λ l. has c (opposite l)) c h in
     any_In (λ l. has d (opposite l)) d t.0 (has_In d t.0 (more t.0 (In_has c t.0 t.1))) (more (opposite t.0) t.2)

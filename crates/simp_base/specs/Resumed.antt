@@ -1,7 +1,8 @@
 -- What a work goes on from: a journal and what is alive after it.
 use Rattle.std.specs.Prelude.{◌≡◌, ℕ, ◌+◌, true, false, List, ◌++◌, length, All, Contains, Some}
+use Rattle.std.specs.Option.{option_map}
 use Rattle.sat_words.specs.Literal.{Literal, IsOn}
-use Rattle.sat_words.specs.Clause.{has, InOrder, distinct_lits}
+use Rattle.sat_words.specs.Clause.{has, distinct_lits, clause_of}
 use Rattle.rup_model.specs.declared.journal.Entry.{Entry}
 use Rattle.rup_model.specs.Journal.{book, added, ended, is_told, LogSound}
 use Rattle.model_stack.specs.declared.stack.Fix.{Fix}
@@ -9,16 +10,15 @@ use Rattle.drat_text.specs.LineState.{LineState}
 use Rattle.simp_base.specs.WorkState.{HaveOwnNumbers, IsFixOn}
 use Rattle.simp_base.specs.Parts.{takes_part}
 
--- after this journal of the formula, of which no clause is empty, each of the clauses is alive under its number, as a deletion spells
--- it, and those that take part are all of them; the units, each once, are all that are in the formula or were added; all
--- literals are on the variables; and the output has as many entries and the last number
+-- after this journal of the formula, of which no clause is empty, each of the clauses is alive under its number, and stands here in
+-- the order of `Clause`, whoever added it; those that take part are all of them; the units, each once, are all that are in the
+-- formula or were added; all literals are on the variables; and the output has as many entries and the last number
 pub record Resumes (F : List (List Literal)) (vars : ℕ) (cells : List (ℕ × List Literal)) (units : List Literal) (stack : List Fix) (out : LineState) (journal : List Entry) : Type 0 where
   pub sound : LogSound F journal
   pub going : ended F journal ≡ false
   pub numbers : HaveOwnNumbers cells
-  pub held : (n : ℕ) (c : List Literal) → Contains cells (n, c) → (book F journal).clause n ≡ Some c
-  pub ordered : (n : ℕ) (c : List Literal) → Contains cells (n, c) → InOrder c
-  pub all : (n : ℕ) (c : List Literal) → (book F journal).clause n ≡ Some c → takes_part c ≡ true → Contains cells (n, c)
+  pub held : (n : ℕ) (c : List Literal) → Contains cells (n, c) → option_map clause_of ((book F journal).clause n) ≡ Some c
+  pub all : (n : ℕ) (c : List Literal) → (book F journal).clause n ≡ Some c → takes_part c ≡ true → Contains cells (n, clause_of c)
   pub told : All (λ l. is_told F journal l ≡ true) units
   pub every : (l : Literal) → is_told F journal l ≡ true → has units l ≡ true
   pub distinct : distinct_lits units ≡ true

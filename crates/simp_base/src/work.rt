@@ -7,19 +7,19 @@ ghost use Rattle.sat_words.specs.Literal.{Literal, IsOn};
 ghost use Rattle.sat_words.specs.Clause.{has, has_opposites, two_or_more};
 ghost use Rattle.sat_words.specs.declared.line.Line.TheVariants.{Del as DelLine};
 ghost use Rattle.rup_model.specs.Rup.{rup};
-ghost use Rattle.rup_model.specs.declared.journal.Entry.{Entry};
-ghost use Rattle.simp_base.specs.WorkState.{IsWork, known, begun, resumed, is_unit, has_unit};
+ghost use Rattle.simp_base.specs.WorkState.{IsWork, known, begun, is_unit, has_unit};
 ghost use Rattle.simp_base.specs.Log.{Stands, Continues};
-ghost use Rattle.simp_base.specs.Resumed.{Resumes, CanResume};
 ghost use Rattle.simp_base.specs.Calls.{ruler_adds, ruler_deletes, on_ok, WasAdded, WasAddedLine, WasDeleted, WasListed, unit_entries};
 
 mod extension;
+mod resumption;
 
-use crate::beginning::{table_of, table_over};
+use crate::beginning::table_of;
 use crate::clause_table::ClauseTable;
 use crate::unit_table::UnitTable;
 use drat_text::{LineOut, LineStop};
 use model_stack::Stack;
+pub use resumption::LogEnd;
 use sat_words::{Clause, Formula, Line, Lit, Lits};
 use std::alloc::{AllocFailed, Global};
 use std::marker::Model;
@@ -44,15 +44,6 @@ pub struct Parts<L: LineOut> {
     pub stack: Stack,
     /// Where the lines go.
     pub output: L,
-}
-
-/// How far a log has come.
-#[derive(Clone, Copy, PartialEq, Eq, Debug)]
-pub struct LogEnd {
-    /// The number of its entries.
-    pub entries: u64,
-    /// The last number given to a clause: the formula's clauses have the first ones, and each addition took the next.
-    pub last: u64,
 }
 
 /// What a simplifier works on: clauses under their numbers, units, the stack, and the output of the log's lines.
@@ -138,49 +129,6 @@ impl<L: LineOut> Work<L> {
             stack: Stack::new(alloc),
             ended: false,
             lines: 0,
-            output,
-        })
-    }
-
-    /// A work that goes on after a journal of the formula: with clauses that are alive there, under their numbers, with units,
-    /// and with the stack of the work before. Clauses that take no part may be left out. The lines go to the output after
-    /// those of the journal. Refused for memory it gives the line output back.
-    pub fn again(
-        alloc: Global,
-        formula: &Formula,
-        vars: u32,
-        clauses: Vec<(u64, Clause)>,
-        units: Vec<Lit>,
-        stack: Stack,
-        end: LogEnd,
-        output: L,
-    ) -> Result<Work<L>, AllocFailed<L>>
-        requires unspent { (L.told output).spent ≡ false }
-        requires resumes { CanResume formula.now.clauses vars clauses.items units.items stack (L.told output) }
-        requires entries { end.entries ≡ (L.told output).entries }
-        requires last { end.last ≡ (L.told output).last }
-        ensures made { IfOk result (λ w. w ≡ resumed vars clauses.items units.items stack (L.told output)) }
-        ensures stands { IfOk result (λ w. (J : List Entry) → Resumes formula.now.clauses vars clauses.items units.items stack (L.told output) J → Stands (record { formula = formula.now.clauses; journal = J; output = L.told output }) [] w) }
-        ensures work { IfOk result IsWork }
-        ensures back { IfErr result (λ refused. refused.value ≡ output) }
-    {
-        // The journal is one of this formula.
-        let _ = formula;
-        let Ok(clauses) = table_over(alloc, vars, end.last, clauses) else {
-            return Err(AllocFailed { value: output });
-        };
-        let Ok(units) = UnitTable::over(alloc, vars, units.as_slice()) else {
-            return Err(AllocFailed { value: output });
-        };
-        Ok(Work {
-            alloc,
-            vars,
-            unheld: vars,
-            clauses,
-            units,
-            stack,
-            ended: false,
-            lines: end.entries,
             output,
         })
     }

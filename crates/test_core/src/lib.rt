@@ -5,7 +5,9 @@ mod literals;
 mod opener;
 
 pub use literals::{are_distinct, is_long, is_told};
-pub use opener::{all_fit, all_told, core_over, opens, stand_apart, start_clauses, start_fits};
+pub use opener::{
+    all_fit, all_told, core_over, next_over, opens, stand_apart, start_clauses, start_fits,
+};
 
 #[cfg(test)]
 mod events;
@@ -15,6 +17,8 @@ mod guards;
 mod openings;
 #[cfg(test)]
 mod reductions;
+#[cfg(test)]
+mod rounds;
 #[cfg(test)]
 mod rows;
 #[cfg(test)]

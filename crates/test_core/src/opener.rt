@@ -5,11 +5,13 @@ ghost use Rattle.std.specs.Option.{unwrap_or};
 ghost use Rattle.rup_model.specs.Journal.{formula_clause, is_told};
 ghost use Rattle.share_core.specs.declared.stored.ClauseAt.{ClauseAt};
 ghost use Rattle.share_core.specs.State.{opened};
+ghost use Rattle.rup_model.specs.declared.journal.Entry.{Entry};
 ghost use Rattle.share_core.specs.Machine.{state_of, start_at, core_opening};
+ghost use Rattle.share_core.specs.NextRound.{IsNextRound, next_opening};
 ghost use Rattle.test_core.specs.Fitting.{start_fits, stand_apart, opens};
 
 use crate::literals::{are_distinct, is_long, is_told};
-use sat_words::{Clause, Formula, Lit, Lits};
+use sat_words::{Clause, Formula, Line, Lit, Lits};
 use share_core::{ClauseAt, Core};
 use std::alloc::{AllocError, Global};
 use std::test::Fail;
@@ -144,4 +146,21 @@ pub fn core_over(
         return Err(Fail::from("no opening"));
     }
     Ok(Core::new(alloc, formula, start, units, rings, depth, limit)?)
+}
+
+/// The core in its next round, if it may begin with these.
+pub fn next_over(
+    alloc: Global,
+    core: Core,
+    lines: &[Line],
+    start: &[(u64, u64)],
+    units: &[Lit],
+    limit: u64,
+) -> Result<Core, Fail>
+    ensures { (E : List Entry) → IsNextRound (state_of core) lines.now start.now units.now limit E → IfOk result (λ next. state_of next ≡ opened (next_opening (state_of core) E start.now units.now limit)) }
+{
+    if !core.may_begin(alloc, lines, start, units, limit)? {
+        return Err(Fail::from("no round"));
+    }
+    Ok(core.next_round(alloc, lines, start, units, limit)?)
 }

@@ -9,7 +9,7 @@ use std::alloc::Global;
 use std::test::Fail;
 
 /// From here on every clause follows from what the ring knows.
-const KNOWS_ALL: &str = "\
+pub(crate) const KNOWS_ALL: &str = "\
 0 grant = done
 0 take-turn = done
 0 propagate unit 1 = done
@@ -35,7 +35,7 @@ const AT_2000: &str = "\
 ";
 
 /// The ring learns 1999 units, each with a ticket that it draws before, all at once.
-fn learn_units(alloc: Global, core: &mut Core) -> Result<Step, Fail> {
+pub(crate) fn learn_units(alloc: Global, core: &mut Core) -> Result<Step, Fail> {
     let mut events = Vec::new(alloc);
     for var in 10..2009 {
         events.push(Event::Draw { ring: 0 })?;

@@ -1,3 +1,4 @@
 mod Below
 mod Drawing
 mod Numbered
+mod RingEntries

@@ -15,6 +15,8 @@ mod again;
 #[cfg(test)]
 mod plain;
 #[cfg(test)]
+mod ring_entries;
+#[cfg(test)]
 mod ruler;
 #[cfg(test)]
 mod tallied;

@@ -1,10 +1,14 @@
 // Lines beside a tally of how far the log has come.
 ghost use Rattle.std.specs.Prelude.{◌≡◌};
 
-use drat_text::{LineOut, LineStop};
+use drat_text::{LineOut, LineStop, SinkLines};
+use io_edge::MemSink;
 use sat_words::Line;
 use simp_base::LogEnd;
 use std::marker::Model;
+
+/// Lines that are kept as text.
+pub(crate) type Written = Tallied<SinkLines<MemSink<'static>>>;
 
 /// A line output, and how far its log has come.
 #[derive(Drop)]

@@ -6,7 +6,7 @@ ghost use Rattle.simp_base.specs.WorkState.{known, lists};
 
 use drat_text::LineOut;
 use rup_model::{is_rat, is_rup};
-use sat_words::{Lit, Lits};
+use sat_words::{Clause, Lit, Lits};
 use simp_base::Work;
 use std::alloc::{AllocError, Global};
 
@@ -30,12 +30,12 @@ pub fn follows<L: LineOut>(
     }
 }
 
-/// The literals of the clauses that are alive.
-fn clauses_of<L: LineOut>(alloc: Global, work: &Work<L>) -> Result<Vec<Lits>, AllocError>
-    ensures { IfOk result (λ clauses. clauses.items ≡ lists work.now.clauses) }
+/// The literals of clauses with numbers.
+pub fn lists_of(alloc: Global, cells: &[(u64, Clause)]) -> Result<Vec<Lits>, AllocError>
+    ensures { IfOk result (λ clauses. clauses.items ≡ lists cells.now) }
 {
     let mut clauses = Vec::new(alloc);
-    for cell in work.clauses() {
+    for cell in cells {
         clauses.push(Lits::from_slice(alloc, cell.1.lits())?)?;
     }
     Ok(clauses)
@@ -49,6 +49,6 @@ pub fn is_rat_there<L: LineOut>(
 ) -> Result<bool, AllocError>
     ensures { IfOk result (λ yes. yes ≡ rat (lists work.now.clauses) lits.now) }
 {
-    let clauses = clauses_of(alloc, work)?;
+    let clauses = lists_of(alloc, work.clauses())?;
     is_rat(alloc, clauses.as_slice(), lits)
 }

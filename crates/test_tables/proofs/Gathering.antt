@@ -16,6 +16,7 @@ use Rattle.share_core.specs.declared.stored.ClauseAt.{ClauseAt}
 use Rattle.share_core.specs.State.{times_at}
 use Rattle.share_rule.specs.declared.view.RingPart.{RingPart}
 use Rattle.share_rule.specs.declared.view.View.{View}
+use Rattle.share_rule.specs.Rests.{NoneBuild}
 use Rattle.share_rule.specs.Views.{only, times_in, without_in}
 use Rattle.share_rule.specs.Steps.{after_load, joined}
 use Rattle.share_rule.proofs.Lists.{times_without}
@@ -36,7 +37,7 @@ turns_end (q ∷ ps) p h e = (h.0, turns_end ps p h.1 e)
 
 -- a ring's pass is taken in
 pub gathered_more : {B : Type 0} (t : Shared B) (p q other : Seat (Option B) View) (ring : ℕ) → IsGathered t p (ring + 1) → IsRing t other ring → IsPassOf t q → IsSamePass p q → (found : ℕ) → q.me.0 ≡ after_load 0 found (joined p.me.0 other.me.0)
-    → IsGathered t q ring × (q.me.0.opening ≡ p.me.0.opening)
+    → IsGathered t q ring × (q.me.0.opening ≡ p.me.0.opening) × (q.me.0.parts ≡ p.me.0.parts ++ only other.me.0 ∷ [])
 gathered_more t p q other ring g o pass same found is =
     let one : RingPart = only other.me.0 in
     let parts : q.me.0.parts ≡ p.me.0.parts ++ one ∷ [] = ap (λ (v : View). v.parts) is ∙ ap (λ (ps : List RingPart). p.me.0.parts ++ ps) o.one in
@@ -52,6 +53,7 @@ gathered_more t p q other ring g o pass same found is =
         free = subst NoTurns (sym parts) (turns_end p.me.0.parts one g.free o.free);
       },
       opening,
+      parts,
     )
 
 -- a start cell is held by who holds all start clauses
@@ -71,3 +73,7 @@ pub written_back : {A : Type 0} (xs ys : List A) (n : ℕ) → length ys ≡ len
 written_back {A} xs ys n same all =
     let m : n ≡ length ys = all ∙ sym same in
     ap (λ (zs : List A). take n (ys ++ zs)) (drop_all (length ys) xs (omega arith)) ∙ ap (take n) (append-nil ys) ∙ take_all n ys (omega arith)
+
+-- two rings that build no cell
+pub none_of_two : (qs rs ps : List RingPart) (one two : RingPart) → rs ≡ qs ++ one ∷ [] → ps ≡ rs ++ two ∷ [] → qs ≡ [] → one.core.making ≡ [] → two.core.making ≡ [] → NoneBuild ps
+none_of_two qs rs ps one two first second none a b = subst NoneBuild (sym (second ∙ ap (λ (xs : List RingPart). xs ++ two ∷ []) (first ∙ ap (λ (xs : List RingPart). xs ++ one ∷ []) none))) (a, (b, tt))

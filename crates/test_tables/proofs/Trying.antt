@@ -14,6 +14,7 @@ use Rattle.share_rule.specs.FirstWords.{MayBegin, begun_with}
 use Rattle.share_rule.specs.Passes.{IsPassOf}
 use Rattle.share_rule.specs.Views.{times_in, first_view, no_origin}
 use Rattle.share_rule.proofs.Openings.{times_up_to}
+use Rattle.share_rule.proofs.Contiguous.{opens_a_table}
 use Rattle.share_core.proofs.Counting.{none_some}
 use Rattle.share_rule.specs.Books.{HasLog}
 use Rattle.test_tables.specs.Samples.{IsFirst}
@@ -30,7 +31,7 @@ may_begin f ss us l p vars some few_rings few_vars few_words some_slot few_slots
       few_words = few_words;
       some_slot = some_slot;
       few_slots = few_slots;
-      opens = p.opens;
+      opens = opens_a_table f.clauses _ p.opens;
       ascending = p.ascending;
       going = ap (list_any is_empty) (append-nil f.clauses) ∙ p.going;
       few_entries = omega arith;

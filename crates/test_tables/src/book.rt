@@ -29,6 +29,14 @@ impl Ledger for SampleBook {
         self.entries
     }
 
+    fn is_broken(&self) -> bool {
+        false
+    }
+
+    fn hole_from(&self, first: u64) -> Option<u64> {
+        self.holes.len_from(first)
+    }
+
     fn with_holes(self, holes: Holes) -> SampleBook {
         let SampleBook {
             entries,

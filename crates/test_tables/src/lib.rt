@@ -7,4 +7,7 @@ mod rings;
 
 pub use book::SampleBook;
 pub use making::{open, open_with, open_with_tickets, refusal};
-pub use rings::{Ring, begin, gather, give_up, start_cell};
+pub use rings::{Ring, begin, close_two, gather, give_up, start_cell};
+
+#[cfg(test)]
+mod tests;

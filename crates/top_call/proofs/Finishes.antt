@@ -61,7 +61,7 @@ unread plan text source out f0 f1 w0 w1 fl0 fl1 result quiet empty same cause fl
 -- ---- the answer of the rings
 
 -- an answer that is a verdict holds, in a run in which the simplifiers came to their end
-found_verdict : (plan : SearchPlan) (vars : ℕ) (F : FormulaData) (J : List Entry) (counts : List Counts) (held : IsHeld plan.threads plan.slots plan.conflicts F.clauses J counts) (found : Answer) (occurring : List Bool) → IsOccurring F.clauses F.vars occurring → is_verdict found ≡ true → Holds plan vars F J held found → IsRuledThrough F (schedule_of plan) J
+found_verdict : (plan : SearchPlan) (vars : ℕ) (F : FormulaData) (J : List Entry) (counts : List Counts) (held : IsHeld plan.threads plan.slots None plan.conflicts F.clauses J counts) (found : Answer) (occurring : List Bool) → IsOccurring F.clauses F.vars occurring → is_verdict found ≡ true → Holds plan vars F J held found → IsRuledThrough F (schedule_of plan) J
     → IsVerdictKind (kind_of found) plan F J
 found_verdict plan vars F J counts held (Sat model) occurring occurs is holds ruled =
     record { decided = record { verdict = Satisfiable (both occurring model); decides = record { holds = cleared F occurring model (both occurring model) holds occurs (has_both occurring model); ruled = ruled } }; kind_is = refl }
@@ -87,7 +87,7 @@ told_found found a before faults t other = elim t.ends [
     by answer.Memory e = e
 
 -- a verdict that an answer comes to holds, and is of its kind
-decided : (plan : SearchPlan) (vars : ℕ) (F : FormulaData) (J : List Entry) (counts : List Counts) (held : IsHeld plan.threads plan.slots plan.conflicts F.clauses J counts) (a : Answer) (occurring : List Bool) (result : Result SearchVerdict CallEnd) (verdict : SearchVerdict)
+decided : (plan : SearchPlan) (vars : ℕ) (F : FormulaData) (J : List Entry) (counts : List Counts) (held : IsHeld plan.threads plan.slots None plan.conflicts F.clauses J counts) (a : Answer) (occurring : List Bool) (result : Result SearchVerdict CallEnd) (verdict : SearchVerdict)
     → IsOccurring F.clauses F.vars occurring → IsVerdictOf occurring a result → result ≡ Ok verdict → Holds plan vars F J held a → (is_verdict a ≡ true → IsRuledThrough F (schedule_of plan) J)
     → (kind_of a ≡ verdict_kind verdict) × Decides plan F J verdict
 decided plan vars F J counts held (Sat model) occurring result verdict occurs is ok holds ruled =
@@ -174,7 +174,7 @@ with_lack kind lack F J tally run s = record {
 }
 
 -- a fault of the proof is that of the search, or comes after a verdict
-fault_found : (plan : SearchPlan) (vars : ℕ) (F : FormulaData) (J : List Entry) (counts : List Counts) (held : IsHeld plan.threads plan.slots plan.conflicts F.clauses J counts) (found : Answer) (occurring : List Bool) (faults : ℕ) → IsOccurring F.clauses F.vars occurring → IsTold found answer.ProofFault 0 faults → Holds plan vars F J held found
+fault_found : (plan : SearchPlan) (vars : ℕ) (F : FormulaData) (J : List Entry) (counts : List Counts) (held : IsHeld plan.threads plan.slots None plan.conflicts F.clauses J counts) (found : Answer) (occurring : List Bool) (faults : ℕ) → IsOccurring F.clauses F.vars occurring → IsTold found answer.ProofFault 0 faults → Holds plan vars F J held found
     → (is_verdict found ≡ true → IsRuledThrough F (schedule_of plan) J) → (kind_of found ≡ Some STOP_PROOF) ⊎ IsVerdictKind (kind_of found) plan F J
 fault_found plan vars F J counts held (Sat model) occurring faults occurs t holds ruled = inr (found_verdict plan vars F J counts held (Sat model) occurring occurs refl holds (ruled refl))
 fault_found plan vars F J counts held Unsat occurring faults occurs t holds ruled = inr (found_verdict plan vars F J counts held Unsat occurring occurs refl holds (ruled refl))

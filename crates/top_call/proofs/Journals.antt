@@ -18,7 +18,7 @@ use Rattle.portfolio_run.specs.Journaled.{IsJournal, IsCutShort}
 use Rattle.top_call.specs.Journaled.{HoldsLog}
 
 pub empty_journal : (rings : ℕ) (clauses : List (List Literal)) → IsJournal rings clauses []
-empty_journal rings clauses = record { fits = tt; accepted = tt; last = tt; spelled = λ k x lt. absurd (omega arith); spaced = tt; of_rings = λ k x lt. absurd (omega arith); plain = λ k x lt. absurd (omega arith); each_new = tt }
+empty_journal rings clauses = record { fits = tt; accepted = tt; last = tt; spelled = λ k x lt. absurd (omega arith); of_rounds = λ k x lt. absurd (omega arith); plain = λ k x lt. absurd (omega arith); begins = tt; each_new = tt; spaced = tt }
 
 -- if a writer's bytes are known and there are none, it holds those of no line
 pub holds_nothing : (written : Option (List ℕ)) → IsEmptyWhereTold written → HoldsText written []

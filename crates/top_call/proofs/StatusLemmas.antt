@@ -7,7 +7,6 @@ use Rattle.sat_words.specs.declared.shared.NoRoom.{NoRoom}
 use Rattle.rup_model.specs.declared.journal.Entry.{Entry}
 use Rattle.io_edge.specs.Causes.{Rose}
 use Rattle.portfolio_run.specs.Journaled.{IsJournal}
-use Rattle.rup_model.specs.Spent.{rings_part}
 use Rattle.dimacs_read.specs.Input.{Reads, Bad}
 use Rattle.dimacs_read.specs.Codes.{number_of}
 use Rattle.dimacs_read.specs.declared.stop.Code.{Code}
@@ -26,7 +25,7 @@ use Rattle.top_call.specs.Ends.{status_of, model_of}
 use Rattle.top_call.specs.Tallied.{no_tally, bad_tally}
 use Rattle.top_call.specs.Statuses.{search_in, Answers, HasModel, IsExhausted, IsUnasked, HasBadPlace, HasJournal, IsCounted, IsReadable, MustAnswer, MadeAll, RanOut, IsUnopened, IsUncreated, IsAnswer, Statuses}
 use Rattle.top_call.proofs.Journals.{empty_journal}
-use Rattle.top_call.proofs.Tallies.{all_learned}
+use Rattle.top_call.proofs.Tallies.{few_of_none, all_learned}
 
 -- a writer that must be there is there
 there : (P : Writer → Type 0) (proof : Option Writer) → IsSomeAnd proof P → IsSome proof
@@ -276,7 +275,20 @@ module _ (F : FormulaData) (J : List Entry) (tally : Tally) (call : Call) where
   counts_none : (t : Tally) → tally ≡ t → t.learned ≡ [] → t.offered ≡ [] → t.exported ≡ [] → J ≡ [] → IsCounted F J tally call
   counts_none t is learned offered exported none = record {
     counts = [];
-    held = inl (record { rulers = ap rings_part none; none = inl refl });
+    held = inl (record {
+      runs = [];
+      left = [];
+      rounds = refl;
+      due = tt;
+      written = [];
+      rulers = λ k d lt. absurd (omega arith);
+      begun = None;
+      journal_is = none;
+      within = few_of_none (search_in call).threads (search_in call).conflicts J none;
+      counts = [];
+      tallied = tt;
+      tally_is = inr (refl, refl);
+    });
     told = record { learned = ap (λ (u : Tally). u.learned) is ∙ learned; offered = ap (λ (u : Tally). u.offered) is ∙ offered; exported = ap (λ (u : Tally). u.exported) is ∙ exported };
   }
 

@@ -1,53 +1,35 @@
 -- What the rings counted, and the lists of the tally.
-use Rattle.std.proofs.Common.{◌≡◌, ◌∙◌, ◌⊎◌, ◌≤◌, ◌<◌, ◌+◌, ◌==◌, ◌&&◌, ℕ, zero, suc, Bool, true, false, cond, List, [], ◌∷◌, ◌++◌, length, map, take, drop, sum, replicate, refl, sym, ap, subst, inl, inr, arith}
-use Rattle.std.specs.Prelude.{slice_index_or, slice_set, Option}
-use Rattle.std.specs.List.{filter}
+use Rattle.std.proofs.Common.{◌≡◌, ◌∙◌, ◌⊎◌, ◌≤◌, ◌<◌, ◌+◌, ℕ, zero, suc, true, List, [], ◌∷◌, ◌++◌, length, length-append, map, take, drop, sum, replicate, Some, None, refl, sym, ap, subst, inl, inr, arith}
+use Rattle.std.specs.Prelude.{slice_index_or, slice_set, Option, All}
+use Rattle.std.specs.Option.{option_map, option_to_list}
 use Rattle.std.proofs.Math.Seq.{drop-length}
-use Rattle.std.proofs.lemmas.Bool.{true≢false}
 use Rattle.std.proofs.lemmas.List.{append-nil, length-map, length-replicate, length-take-le, map_more, get_or-map, get_or-replicate}
-use Rattle.std.proofs.lemmas.List.Sums.{sum_by-cons, take_while-cons}
+use Rattle.std.proofs.lemmas.List.Sums.{sum_by-cons}
 use Rattle.sat_words.specs.Literal.{Literal}
 use Rattle.sat_words.specs.FormulaData.{FormulaData}
+use Rattle.sat_words.specs.declared.shared.NoRoom.{NoRoom}
 use Rattle.rup_model.specs.Basics.{below}
-use Rattle.rup_model.specs.declared.journal.Addition.{Addition}
+use Rattle.rup_model.specs.declared.journal.Round.{Round as RoundStart}
 use Rattle.rup_model.specs.declared.journal.Entry.{Entry}
-use Rattle.rup_model.specs.declared.journal.Entry.TheVariants.{Add, Del, Reduce}
-use Rattle.rup_model.specs.Journal.{additions, learned, is_learn}
+use Rattle.rup_model.specs.declared.journal.Entry.TheVariants.{Round}
+use Rattle.rup_model.specs.Journal.{learned}
 use Rattle.rup_model.specs.Opening.{is_rulers}
-use Rattle.rup_model.specs.Spent.{ruler_part, rings_part, SpentAll}
-use Rattle.rup_model.proofs.Parts.{rulers_kind}
+use Rattle.rup_model.proofs.Additions.{learned-append}
 use Rattle.rup_model.proofs.Sums.{below_first, below_none}
+use Rattle.core_rounds.specs.Rounds.{RoundRun, written_in, start_for, AreRounds}
+use Rattle.core_rounds.specs.InRounds.{learned_by}
+use Rattle.core_rounds.proofs.Learned.{rulers_learned}
+use Rattle.core_rounds.proofs.OneRound.{grows}
 use Rattle.ring_run.specs.declared.job.Counts.{Counts}
 use Rattle.portfolio_run.specs.declared.answer.Answer.{Answer}
 use Rattle.portfolio_run.specs.declared.answer.Answer.TheVariants.{Sat, Unsat, Unknown, NoHole, ProofFault, Memory}
 use Rattle.portfolio_run.specs.declared.plan.Plan.{Plan as SearchPlan}
-use Rattle.portfolio_run.specs.Held.{IsHeld, HasStop, NeverGone, IsTallied, no_counts}
+use Rattle.portfolio_run.specs.Held.{RestsBetween, IsHeld, HasStop, NeverGone, AreTallied, add_tallies, total, no_counts}
+use Rattle.portfolio_run.specs.Room.{HasNoRoom}
 use Rattle.portfolio_run.specs.Solved.{IsUnsettled, Holds}
-use Rattle.top_call.specs.Tallied.{no_lack, zero_tally, rings_tally, over, counted, AreLearned}
-
--- ---- a journal that the ruler alone wrote
-
-not_learned : (x : Addition) (others : List Addition) (t u : Bool) → u ≡ false → map (λ (y : Addition). y.lits) others ≡ [] → map (λ (y : Addition). y.lits) (cond (t && u) (x ∷ others) others) ≡ []
-not_learned x others true true e none = absurd (true≢false e)
-not_learned x others true false e none = none
-not_learned x others false u e none = none
-
-part_by : (x : Entry) (J : List Entry) (b : Bool) → is_rulers x ≡ b → rings_part (x ∷ J) ≡ drop (length (cond b (x ∷ ruler_part J) [])) (x ∷ J)
-part_by x J b is = ap (λ (I : List Entry). drop (length I) (x ∷ J)) (take_while-cons is_rulers x J ∙ ap (λ (c : Bool). cond c (x ∷ ruler_part J) []) is)
-
-one_more : (r : ℕ) (J : List Entry) (y : Entry) → is_rulers y ≡ true → learned r J ≡ [] → learned r (y ∷ J) ≡ []
-one_more r J (Add a) is none = not_learned a (filter (λ (y : Addition). (y.ring == r) && is_learn y.kind) (additions J)) (a.ring == r) (is_learn a.kind) (rulers_kind a is) none
-one_more r J (Del q n) is none = none
-one_more r J (Reduce q) is none = none
-
-learned_by : (r : ℕ) (x : Entry) (J : List Entry) → rings_part (x ∷ J) ≡ [] → (rings_part J ≡ [] → learned r J ≡ []) → (b : Bool) → is_rulers x ≡ b → learned r (x ∷ J) ≡ []
-learned_by r x J e behind true is = one_more r J x is (behind (sym (part_by x J true is) ∙ e))
-learned_by r x J e behind false is = absurd (let no : (x ∷ J) ≡ [] = sym (part_by x J false is) ∙ e in let bad : ⊥ = cc in bad)
-
--- nothing in it was learned
-pub none_learned : (r : ℕ) (J : List Entry) → rings_part J ≡ [] → learned r J ≡ []
-none_learned r [] e = refl
-none_learned r (x ∷ J) e = learned_by r x J e (none_learned r J) (is_rulers x) refl
+use Rattle.portfolio_run.specs.Spent.{LearnedAll}
+use Rattle.top_call.specs.declared.report.Tally.{Tally}
+use Rattle.top_call.specs.Tallied.{no_lack, zero_tally, rings_tally, over, counted, HasRings, AreLearned}
 
 -- ---- what each ring counted
 
@@ -56,77 +38,114 @@ abbrev pub each_counted : ℕ → List Counts → List Counts
 each_counted rings [] = replicate rings no_counts
 each_counted rings (c ∷ cs) = c ∷ cs
 
-none_each : (rings : ℕ) → each_counted rings (replicate rings no_counts) ≡ replicate rings no_counts
-none_each zero = refl
-none_each (suc n) = refl
-
 full_each : (rings : ℕ) (counts : List Counts) → length counts ≡ rings → each_counted rings counts ≡ counts
 full_each rings [] e = ap (λ (n : ℕ). replicate n no_counts) (sym e)
 full_each rings (c ∷ cs) e = refl
 
+-- the counts of all rounds together are as many as the rings
+added_many : (n : ℕ) (cs ds : List Counts) → length cs ≡ n → length ds ≡ n → length (add_tallies cs ds) ≡ n
+added_many n [] ds e f = e
+added_many n (c ∷ cs) [] e f = absurd (omega arith)
+added_many zero (c ∷ cs) (d ∷ ds) e f = absurd (omega arith)
+added_many (suc n) (c ∷ cs) (d ∷ ds) e f = ap suc (added_many n cs ds (omega arith) (omega arith))
+
+total_many : (rings : ℕ) (xs : List RoundRun) (cs : List (List Counts)) → AreTallied rings xs cs → length (total rings cs) ≡ rings
+total_many rings [] [] h = length-replicate rings no_counts
+total_many rings [] (c ∷ cs) h = absurd h
+total_many rings (x ∷ xs) [] h = absurd h
+total_many rings (x ∷ xs) (c ∷ cs) h = added_many rings c (total rings cs) h.0.many (total_many rings xs cs h.1)
+
+-- no round, no counts
+none_tallied : (rings : ℕ) (xs : List RoundRun) (cs : List (List Counts)) → AreTallied rings xs cs → xs ≡ [] → cs ≡ []
+none_tallied rings [] [] h none = refl
+none_tallied rings [] (c ∷ cs) h none = absurd h
+none_tallied rings (x ∷ xs) cs h none = absurd (let no : ⊥ = cc in no)
+
 -- the rings counted nothing, or each did
-pub sizes : (rings slots limit : ℕ) (F : List (List Literal)) (J : List Entry) (counts : List Counts) → IsHeld rings slots limit F J counts → (counts ≡ []) ⊎ (length counts ≡ rings)
-sizes rings slots limit F J counts (inl h) = elim h.none [
-  | inl e ↦ inl e
-  | inr e ↦ inr (ap length e ∙ length-replicate rings no_counts)
+pub sizes : (rings slots limit : ℕ) (F : List (List Literal)) (J : List Entry) (counts : List Counts) → IsHeld rings slots None limit F J counts → (counts ≡ []) ⊎ (length counts ≡ rings)
+sizes rings slots limit F J counts (inl h) = elim h.tally_is [
+  | inl e ↦ inr (ap length e ∙ total_many rings h.runs h.counts h.tallied)
+  | inr e ↦ inl e.1
 ]
-sizes rings slots limit F J counts (inr h) = inr h.many
+sizes rings slots limit F J counts (inr h) = inr (ap length h.tally_is ∙ total_many rings (h.last ∷ h.before) h.counts h.tallied)
 
 pub long_each : (rings : ℕ) (counts : List Counts) → (counts ≡ []) ⊎ (length counts ≡ rings) → length (each_counted rings counts) ≡ rings
 long_each rings counts (inl e) = ap (λ (cs : List Counts). length (each_counted rings cs)) e ∙ length-replicate rings no_counts
 long_each rings counts (inr e) = ap length (full_each rings counts e) ∙ e
 
-pub held_each : (rings slots limit : ℕ) (F : List (List Literal)) (J : List Entry) (counts : List Counts) → IsHeld rings slots limit F J counts → IsHeld rings slots limit F J (each_counted rings counts)
+pub held_each : (rings slots limit : ℕ) (F : List (List Literal)) (J : List Entry) (counts : List Counts) → IsHeld rings slots None limit F J counts → IsHeld rings slots None limit F J (each_counted rings counts)
 held_each rings slots limit F J counts (inl h) = inl (record {
+  runs = h.runs;
+  left = h.left;
+  rounds = h.rounds;
+  due = h.due;
+  written = h.written;
   rulers = h.rulers;
-  none = inr (elim h.none [
-    | inl e ↦ ap (each_counted rings) e
-    | inr e ↦ ap (each_counted rings) e ∙ none_each rings
+  begun = h.begun;
+  journal_is = h.journal_is;
+  within = h.within;
+  counts = h.counts;
+  tallied = h.tallied;
+  tally_is = inl (elim h.tally_is [
+    | inl e ↦ full_each rings counts (ap length e ∙ total_many rings h.runs h.counts h.tallied) ∙ e
+    | inr e ↦ ap (each_counted rings) e.1 ∙ sym (ap (total rings) (none_tallied rings h.runs h.counts h.tallied e.0))
   ]);
 })
-held_each rings slots limit F J counts (inr h) =
-    let same : each_counted rings counts ≡ counts = full_each rings counts h.many in
-    inr (record {
-      opening = h.opening;
-      rings_are = h.rings_are;
-      depth_is = h.depth_is;
-      limit_is = h.limit_is;
-      formula_is = h.formula_is;
-      program = h.program;
-      core = h.core;
-      left = h.left;
-      leaves = h.leaves;
-      within = h.within;
-      many = ap length same ∙ h.many;
-      tallied = λ ring d lt. subst (λ (cs : List Counts). IsTallied rings ring h.left.events J (slice_index_or cs ring d)) (sym same) (h.tallied ring d lt);
-    })
+held_each rings slots limit F J counts (inr h) = inr (record {
+  last = h.last;
+  before = h.before;
+  rounds = h.rounds;
+  within = h.within;
+  counts = h.counts;
+  tallied = h.tallied;
+  tally_is = full_each rings counts (ap length h.tally_is ∙ total_many rings (h.last ∷ h.before) h.counts h.tallied) ∙ h.tally_is;
+})
 
 -- with the same stop
-pub stop_each : (rings slots limit : ℕ) (F : List (List Literal)) (J : List Entry) (counts : List Counts) (held : IsHeld rings slots limit F J counts) (kind : Option ℕ) → HasStop held kind → HasStop (held_each rings slots limit F J counts held) kind
+pub stop_each : (rings slots limit : ℕ) (F : List (List Literal)) (J : List Entry) (counts : List Counts) (held : IsHeld rings slots None limit F J counts) (kind : Option ℕ) → HasStop held kind → HasStop (held_each rings slots limit F J counts held) kind
 unfolding held_each
 stop_each rings slots limit F J counts (inl h) kind stop = stop
 stop_each rings slots limit F J counts (inr h) kind stop = stop
 
 -- and as much left to settle
-unsettled_each : (rings slots limit : ℕ) (F : List (List Literal)) (J : List Entry) (counts : List Counts) (held : IsHeld rings slots limit F J counts) → IsUnsettled held → IsUnsettled (held_each rings slots limit F J counts held)
+unsettled_each : (rings slots limit : ℕ) (F : List (List Literal)) (J : List Entry) (counts : List Counts) (held : IsHeld rings slots None limit F J counts) → IsUnsettled held → IsUnsettled (held_each rings slots limit F J counts held)
 unfolding held_each
 unsettled_each rings slots limit F J counts held u = record { ring = u.ring; below = u.below; tickets = by held u.tickets; going = u.going; rulers = u.rulers }
   where
-    by : (h : IsHeld rings slots limit F J counts) → NeverGone h u.ring → NeverGone (held_each rings slots limit F J counts h) u.ring
-    by (inl h) never = tt
+    by : (h : IsHeld rings slots None limit F J counts) → NeverGone h u.ring → NeverGone (held_each rings slots limit F J counts h) u.ring
+    by (inl h) never = never
     by (inr h) never = never
 
+-- and as little room
+room_each : (plan : SearchPlan) (vars : ℕ) (F : List (List Literal)) (J : List Entry) (counts : List Counts) (held : IsHeld plan.threads plan.slots None plan.conflicts F J counts) (lack : NoRoom) → HasNoRoom plan vars held lack
+    → HasNoRoom plan vars (held_each plan.threads plan.slots plan.conflicts F J counts held) lack
+unfolding held_each
+room_each plan vars F J counts (inl h) lack (inl u) = inl (record { start = u.start; begun = u.begun; none = u.none })
+room_each plan vars F J counts (inl h) lack (inr full) = inr full
+room_each plan vars F J counts (inr h) lack tight = tight
+
 -- the same answer holds
-pub holds_each : (plan : SearchPlan) (vars : ℕ) (F : FormulaData) (J : List Entry) (counts : List Counts) (held : IsHeld plan.threads plan.slots plan.conflicts F.clauses J counts) (a : Answer)
+pub holds_each : (plan : SearchPlan) (vars : ℕ) (F : FormulaData) (J : List Entry) (counts : List Counts) (held : IsHeld plan.threads plan.slots None plan.conflicts F.clauses J counts) (a : Answer)
     → Holds plan vars F J held a → Holds plan vars F J (held_each plan.threads plan.slots plan.conflicts F.clauses J counts held) a
 holds_each plan vars F J counts held (Sat model) h = h
 holds_each plan vars F J counts held Unsat h = h
 holds_each plan vars F J counts held Unknown h = h
-holds_each plan vars F J counts held (NoHole lack) h = (h.0, unsettled_each plan.threads plan.slots plan.conflicts F.clauses J counts held h.1)
+holds_each plan vars F J counts held (NoHole lack) h = (room_each plan vars F.clauses J counts held lack h.0, unsettled_each plan.threads plan.slots plan.conflicts F.clauses J counts held h.1)
 holds_each plan vars F J counts held ProofFault h = tt
 holds_each plan vars F J counts held Memory h = unsettled_each plan.threads plan.slots plan.conflicts F.clauses J counts held h
 
 -- ---- the lists of the tally
+
+-- there is a place for what each ring counted
+pub fits_zero : (rings : ℕ) (counts : List Counts) (tally : Tally) → tally ≡ zero_tally rings → (counts ≡ []) ⊎ (length counts ≡ rings) → HasRings (length tally.learned) tally × (length counts ≤ length tally.learned)
+fits_zero rings counts tally is size = subst (λ (t : Tally). HasRings (length t.learned) t × (length counts ≤ length t.learned)) (sym is) (record { learned = refl; offered = refl; exported = refl }, few size)
+  where
+    many : length {A = ℕ} (replicate rings 0) ≡ rings
+    many = length-replicate rings 0
+
+    few : (counts ≡ []) ⊎ (length counts ≡ rings) → length counts ≤ length {A = ℕ} (replicate rings 0)
+    few (inl e) = let none : length counts ≡ 0 = ap length e in omega (arith, none)
+    few (inr e) = let same = many in omega (arith, e, same)
 
 set_over : (front old : List ℕ) (n : ℕ) → length front < length old → slice_set (front ++ drop (length front) old) (length front) n ≡ (front ++ n ∷ []) ++ drop (length (front ++ n ∷ [])) old
 set_over [] [] n lt = absurd (omega arith)
@@ -193,8 +212,45 @@ sum_learned : (rings : ℕ) (J : List Entry) (numbers : List ℕ) → length num
 sum_learned rings J numbers many each =
     sum_below numbers (λ ring. length (learned ring J)) (λ ring d lt. each ring d (omega (arith, many, lt))) ∙ ap (λ (n : ℕ). below n (λ ring. length (learned ring J))) many
 
+-- what a ring counted in all rounds, by the counts of each
+added_at : (cs ds : List Counts) (ring : ℕ) (d : Counts) → ring < length cs → ring < length ds → (slice_index_or (add_tallies cs ds) ring d).learned ≡ (slice_index_or cs ring d).learned + (slice_index_or ds ring d).learned
+added_at [] ds ring d lt more = absurd (omega arith)
+added_at (x ∷ cs) [] ring d lt more = absurd (omega arith)
+added_at (x ∷ cs) (y ∷ ds) zero d lt more = refl
+added_at (x ∷ cs) (y ∷ ds) (suc ring) d lt more = added_at cs ds ring d (omega arith) (omega arith)
+
+-- what the ruler writes and where a round begins nothing is learned
+rests_learn : (ring : ℕ) (J rest : List Entry) (start : Option RoundStart) → All (λ e. is_rulers e ≡ true) rest → learned ring ((J ++ rest) ++ option_to_list (option_map Round start)) ≡ learned ring J
+rests_learn ring J rest None rulers = ap (learned ring) (append-nil (J ++ rest)) ∙ learned-append ring J rest ∙ ap (λ (cs : List (List Literal)). learned ring J ++ cs) (rulers_learned ring rest rulers) ∙ append-nil (learned ring J)
+rests_learn ring J rest (Some x) rulers =
+    learned-append ring (J ++ rest) (Round x ∷ []) ∙ append-nil (learned ring (J ++ rest))
+    ∙ learned-append ring J rest ∙ ap (λ (cs : List (List Literal)). learned ring J ++ cs) (rulers_learned ring rest rulers) ∙ append-nil (learned ring J)
+
+-- so it learned as many as it counted
+total_learned : (rings slots limit : ℕ) (F : List (List Literal)) (xs : List RoundRun) (cs : List (List Counts)) (J : List Entry) → AreRounds rings slots None limit F xs J → AreTallied rings xs cs
+    → (ring : ℕ) → ring < rings → (slice_index_or (total rings cs) ring no_counts).learned ≡ length (learned ring J)
+total_learned rings slots limit F [] [] J r h ring lt =
+    ap (λ (c : Counts). c.learned) (get_or-replicate rings ring no_counts no_counts lt) ∙ sym (ap (λ (I : List Entry). length (learned ring I)) r)
+total_learned rings slots limit F [] (c ∷ cs) J r h ring lt = absurd h
+total_learned rings slots limit F (x ∷ xs) [] J r h ring lt = absurd h
+total_learned rings slots limit F (x ∷ xs) (c ∷ cs) J r h ring lt =
+    let before : List Entry = r.0 in
+    let rest : List Entry = r.1 in
+    let start : RoundStart = start_for x.opening in
+    let old = total_learned rings slots limit F xs cs before r.2 h.1 ring lt in
+    let here : (slice_index_or c ring no_counts).learned ≡ length (learned ring (written_in x)) = (h.0.each ring no_counts lt).learned_is in
+    let many : length (total rings cs) ≡ rings = total_many rings xs cs h.1 in
+    let many_here : length c ≡ rings = h.0.many in
+    let counted_there = added_at c (total rings cs) ring no_counts (omega (arith, many_here, lt)) (omega (arith, many, lt)) in
+    let parts : learned ring J ≡ learned ring before ++ learned ring (written_in x) =
+    ap (learned ring) (r.6 ∙ grows r.5 ∙ ap (λ (I : List Entry). I ++ written_in x) r.5.journal_is)
+    ∙ learned-append ring ((before ++ rest) ++ Round start ∷ []) (written_in x)
+    ∙ ap (λ (ds : List (List Literal)). ds ++ learned ring (written_in x)) (rests_learn ring before rest (Some start) r.3) in
+    let long = ap length parts ∙ length-append (learned ring before) (learned ring (written_in x)) in
+    omega (arith, old, here, counted_there, long)
+
 -- the numbers are those of the journal's lemmas
-pub are_learned : (rings slots limit : ℕ) (F : List (List Literal)) (J : List Entry) (counts : List Counts) → IsHeld rings slots limit F J counts → length counts ≡ rings
+pub are_learned : (rings slots limit : ℕ) (F : List (List Literal)) (J : List Entry) (counts : List Counts) → IsHeld rings slots None limit F J counts → length counts ≡ rings
     → AreLearned rings limit J (map (λ c. c.learned) counts)
 are_learned rings slots limit F J counts held long = record {
   many = many;
@@ -205,24 +261,29 @@ are_learned rings slots limit F J counts held long = record {
     many : length (map (λ (c : Counts). c.learned) counts) ≡ rings
     many = length-map counts (λ (c : Counts). c.learned) ∙ long
 
-    one : (ring : ℕ) → ring < rings → IsHeld rings slots limit F J counts → (slice_index_or counts ring no_counts).learned ≡ length (learned ring J)
-    one ring lt (inl h) =
-        let none = none_learned ring J h.rulers in
-        let zero_is : length (learned ring J) ≡ 0 = ap length none in
-        let zeros : counts ≡ replicate rings no_counts = elim h.none [
-          | inl e ↦ absurd (let none_there : length counts ≡ 0 = ap length e in omega (arith, none_there, long, lt))
-          | inr e ↦ e
-        ] in
-        ap (λ (cs : List Counts). (slice_index_or cs ring no_counts).learned) zeros ∙ ap (λ (c : Counts). c.learned) (get_or-replicate rings ring no_counts no_counts lt) ∙ sym zero_is
-    one ring lt (inr h) = (h.tallied ring no_counts lt).learned_is
+    rested : (ring : ℕ) → ring < rings → (h : RestsBetween rings slots None limit F J counts) → (counts ≡ total rings h.counts) ⊎ ((h.runs ≡ []) × (counts ≡ [])) → (slice_index_or counts ring no_counts).learned ≡ length (learned ring J)
+    rested ring lt h (inl e) =
+        ap (λ (cs : List Counts). (slice_index_or cs ring no_counts).learned) e ∙ total_learned rings slots limit F h.runs h.counts h.left h.rounds h.tallied ring lt
+        ∙ sym (ap length (ap (learned ring) h.journal_is ∙ rests_learn ring h.left h.written h.begun h.rulers))
+    rested ring lt h (inr e) = absurd (let none_there : length counts ≡ 0 = ap length e.1 in omega (arith, none_there, long, lt))
+
+    one : (ring : ℕ) → ring < rings → IsHeld rings slots None limit F J counts → (slice_index_or counts ring no_counts).learned ≡ length (learned ring J)
+    one ring lt (inl h) = rested ring lt h h.tally_is
+    one ring lt (inr h) = ap (λ (cs : List Counts). (slice_index_or cs ring no_counts).learned) h.tally_is ∙ total_learned rings slots limit F (h.last ∷ h.before) h.counts J h.rounds h.tallied ring lt
 
     each : (ring d : ℕ) → ring < rings → slice_index_or (map (λ (c : Counts). c.learned) counts) ring d ≡ length (learned ring J)
     each ring d lt = get_or-map (λ (c : Counts). c.learned) counts ring no_counts d (omega (arith, long)) ∙ one ring lt held
 
-    all : IsHeld rings slots limit F J counts → below rings (λ ring. length (learned ring J)) ≤ limit
-    all (inl h) = let none = below_none rings (λ ring. length (learned ring J)) (λ ring lt. ap length (none_learned ring J h.rulers)) in omega (arith, none)
+    all : IsHeld rings slots None limit F J counts → learned_by rings J ≤ limit
+    all (inl h) = h.within
     all (inr h) = h.within
 
+-- where there is no entry nothing was learned
+pub few_of_none : (rings limit : ℕ) (J : List Entry) → J ≡ [] → learned_by rings J ≤ limit
+few_of_none rings limit J none =
+    let nothing : learned_by rings J ≡ 0 = below_none rings (λ (ring : ℕ). length (learned ring J)) (λ ring lt. ap (λ (I : List Entry). length (learned ring I)) none) in
+    omega (arith, nothing)
+
 -- if the rings together have learned as many lemmas as they may, the tally says so
-pub all_learned : (rings limit : ℕ) (F : List (List Literal)) (J : List Entry) (numbers : List ℕ) → AreLearned rings limit J numbers → SpentAll F J rings limit → sum numbers ≡ limit
-all_learned rings limit F J numbers are spent = sum_learned rings J numbers are.many are.each ∙ spent.spent.learns
+pub all_learned : (rings limit : ℕ) (F : List (List Literal)) (J : List Entry) (numbers : List ℕ) → AreLearned rings limit J numbers → LearnedAll F J rings None limit → sum numbers ≡ limit
+all_learned rings limit F J numbers are h = sum_learned rings J numbers are.many are.each ∙ h.learns

@@ -7,10 +7,10 @@ use Rattle.sat_words.specs.Truth.{value_of}
 use Rattle.sat_words.specs.FormulaData.{FormulaData}
 use Rattle.sat_words.specs.declared.shared.TheConstants.{STOP_SAT, STOP_REFUTED}
 use Rattle.rup_model.specs.declared.journal.Entry.{Entry}
-use Rattle.rup_model.specs.Spent.{SpentAll}
 use Rattle.portfolio_run.specs.declared.plan.Plan.{Plan}
 use Rattle.portfolio_run.specs.Ruled.{schedule_of, IsRuledThrough}
 use Rattle.portfolio_run.specs.Solved.{IsModel, IsRefutation}
+use Rattle.portfolio_run.specs.Spent.{LearnedAll}
 use Rattle.top_call.specs.declared.report.SearchVerdict.{SearchVerdict}
 use Rattle.top_call.specs.declared.report.SearchVerdict.TheVariants.{Satisfiable, Unsatisfiable, Unknown}
 
@@ -28,11 +28,11 @@ pub record IsClearedModel (formula : FormulaData) (model : List Bool) : Type 0 w
   pub idle : (var : ℕ) → occurs formula.clauses var ≡ false → value_of model var ≡ false
 
 -- the verdict holds of the formula and the journal: there is a model; there is a refutation; the rings together have learned as many
--- lemmas as they may, each of them new
+-- lemmas as they may, each of them new in its round
 abbrev pub Holds : Plan → FormulaData → List Entry → SearchVerdict → Type 0
 Holds plan formula journal (Satisfiable model) = IsClearedModel formula model
 Holds plan formula journal Unsatisfiable = IsRefutation formula.clauses journal
-Holds plan formula journal Unknown = SpentAll formula.clauses journal plan.threads plan.conflicts
+Holds plan formula journal Unknown = LearnedAll formula.clauses journal plan.threads None plan.conflicts
 
 -- the verdict holds of a run with this plan, in which the simplifiers came to their end
 pub record Decides (plan : Plan) (formula : FormulaData) (journal : List Entry) (verdict : SearchVerdict) : Type 0 where

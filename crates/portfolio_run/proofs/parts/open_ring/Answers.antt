@@ -13,5 +13,6 @@ returns g c =
       refused_is = e.refused;
       faulty_is = e.faulty;
       alone_is = e.alone;
+      settled = (e.built, e.listed);
       end_is = c.unwrap.ensures;
     }

@@ -13,6 +13,7 @@ returns g c =
         one = e.ring.0;
         ring_is = ap (λ (s : PortState). s.ring) e.state.1;
         free = e.ring.1;
+        settled = (e.built, e.listed);
       };
       idle = none_written (only c.into_pass.result.me.0).core.wrote (ap (λ (s : PortState). s.mine) e.state.1 ∙ c.requires.idle);
       calm = λ one. not_true (only c.into_pass.result.me.0).failed (λ f. true≢false (sym c.requires.usable ∙ e.alone (rings_there c.args.table.now c.into_pass.result e.pass.0 ∙ one) f));

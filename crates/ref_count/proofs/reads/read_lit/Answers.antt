@@ -6,7 +6,7 @@ use Rattle.share_rule.specs.Views.{clause_of}
 use Rattle.share_rule.proofs.Parts.{held_of}
 use Rattle.share_rule.proofs.Loading.{loads}
 use Rattle.share_rule.proofs.Rooms.{few_words}
-use Rattle.ref_count.proofs.Decoding.{decoded}
+use Rattle.share_rule.proofs.Decoding.{decoded}
 use Rattle.ref_count.proofs.reads.read_lit.Goals as goal
 
 pub overflow_add-cell : goal.overflow_add-cell

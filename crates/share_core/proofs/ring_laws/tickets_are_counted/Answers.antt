@@ -1,4 +1,4 @@
-use Rattle.std.proofs.Common.{◌≡◌, ◌<◌, ◌≤◌, ℕ, List, map, length, ap, sym, ◌∙◌, subst}
+use Rattle.std.proofs.Common.{◌≡◌, ◌≤◌, ℕ, List, map, length, ap, sym, ◌∙◌, subst}
 use Rattle.rup_model.specs.Basics.{below}
 use Rattle.rup_model.specs.Journal.{learned}
 use Rattle.rup_model.proofs.Sums.{below_same}

@@ -1,14 +1,24 @@
-use Rattle.std.proofs.Common.{◌≡◌, ◌∙◌, ap, refl, Some, None}
+use Rattle.std.proofs.Common.{◌≡◌, ◌≤◌, ◌∙◌, List, length, ap, sym, subst, refl, Some, None}
 use Rattle.std.specs.Prelude.{is_some}
 use Rattle.std.specs.Option.{option_map}
 use Rattle.std.specs.declared.option.Option.{Option}
-use Rattle.top_call.specs.Tallied.{counted}
+use Rattle.ring_run.specs.declared.job.Counts.{Counts}
+use Rattle.top_call.specs.Tallied.{HasRings, counted}
 use Rattle.top_call.proofs.Finishes.{verdict_run, stopped_run, kept_lines}
+use Rattle.top_call.proofs.Tallies.{sizes, fits_zero}
 use Rattle.top_call.proofs.decide.search_formula.Goals as goal
 
 some_mapped : {A B : Type 0} (f : A → B) (o : Option A) → is_some o ≡ is_some (option_map f o)
 some_mapped f None = refl
 some_mapped f (Some x) = refl
+
+pub count-requires : goal.count-requires
+count-requires g c =
+    let plan = c.args.plan.now.search in
+    let solved = c.solve-answer.ensures.solved in
+    let counts = c.solve-answer.result.tally.items in
+    subst (λ (cs : List Counts). HasRings (length c.args.tally.now.learned) c.args.tally.now × (length cs ≤ length c.args.tally.now.learned)) (sym c.as_slice.ensures.value)
+    (fits_zero plan.threads counts c.args.tally.now c.requires.started (sizes plan.threads plan.slots plan.conflicts c.args.formula.now.clauses solved.journal counts solved.reached.held))
 
 pub finish-requires-clause-kept : goal.finish-requires-clause-kept
 finish-requires-clause-kept g c =

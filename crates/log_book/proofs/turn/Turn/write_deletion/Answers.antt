@@ -5,11 +5,12 @@ use Rattle.sat_words.specs.declared.line.Line.TheVariants.{Del as DelLine}
 use Rattle.clause_cell.specs.declared.holes.Hole.{Hole}
 use Rattle.clause_cell.specs.Packing.{words_for}
 use Rattle.clause_cell.specs.Free.{is_clear, with_range}
-use Rattle.rup_model.specs.Journal.{book}
+use Rattle.rup_model.specs.Journal.{spelled_by, book}
 use Rattle.share_rule.specs.declared.note.Note.{Note}
 use Rattle.share_rule.specs.declared.note.Note.TheVariants.{Bury}
 use Rattle.share_rule.specs.declared.view.View.{View}
 use Rattle.share_rule.specs.Room.{Room, room, without_words}
+use Rattle.share_rule.specs.Views.{only}
 use Rattle.log_book.specs.Turns.{sheet, waiting}
 use Rattle.log_book.proofs.Standings.{line_turn, failed_turn}
 use Rattle.log_book.proofs.Waits.{Waits, waits_so, waits_clear}
@@ -65,7 +66,7 @@ returns-in-Ok-write-clause-added g c =
     let n_is : c.words_for-words.result ≡ words_for (length (waiting v t a).lits) = c.words_for-words.ensures ∙ ap (λ (ks : List Literal). words_for (length ks)) c.requires.clause in
     let holes_are : c.make_room.new.self.book.holes ≡ m.holes = same.holes ∙ h.stands.holes could.1 in
     let made = c.in-Ok.ensures ∙ c.requires.clause in
-    let line : unwrap_or ((book v.opening.formula (sheet v t).journal).clause n) [] ≡ (waiting v t a).lits = ap (λ (q : Option (List Literal)). unwrap_or q []) w.clause in
+    let line : spelled_by (only v).core.ring (unwrap_or ((book v.opening.formula (sheet v t).journal).clause n) []) ≡ (waiting v t a).lits = ap (λ (q : Option (List Literal)). spelled_by (only v).core.ring (unwrap_or q [])) w.clause ∙ w.spelled in
     let given : c.give.new.self ≡ with_range a (words_for (length (waiting v t a).lits)) m.holes = c.in-Ok-give.ensures.given ∙ (λ i. with_range a (n_is i) (holes_are i)) in
     let noted_is = c.push_reserved.ensures.items ∙ ap (λ (ns : List Note). ns ++ note ∷ []) c.make_room.ensures.noted.0 in
     let stood = line_turn g.S.Sink.written g.S.Sink.flushed g.S.Sink.target g.S.Sink.faults v t c.requires.seen h note could c.requires.note _ refl _ (DelLine c.in-Ok.copy) _ (λ i. DelLine ((line ∙ sym made) i) ∷ []) noted_is c.make_room.ensures.noted.1
@@ -93,7 +94,7 @@ returns-clause-stopped g c =
     let n_is : c.words_for-words.result ≡ words_for (length (waiting v t a).lits) = c.words_for-words.ensures ∙ ap (λ (ks : List Literal). words_for (length ks)) c.requires.clause in
     let holes_are : c.make_room.new.self.book.holes ≡ m.holes = same.holes ∙ h.stands.holes could.1 in
     let made = c.in-Ok.ensures ∙ c.requires.clause in
-    let line : unwrap_or ((book v.opening.formula (sheet v t).journal).clause n) [] ≡ (waiting v t a).lits = ap (λ (q : Option (List Literal)). unwrap_or q []) w.clause in
+    let line : spelled_by (only v).core.ring (unwrap_or ((book v.opening.formula (sheet v t).journal).clause n) []) ≡ (waiting v t a).lits = ap (λ (q : Option (List Literal)). spelled_by (only v).core.ring (unwrap_or q [])) w.clause ∙ w.spelled in
     let f = failed_turn g.S.Sink.written g.S.Sink.flushed g.S.Sink.target g.S.Sink.faults v t c.requires.seen h note could c.requires.note _ refl _ (DelLine c.in-Ok.copy) (λ i. DelLine ((line ∙ sym made) i) ∷ []) (subst (λ (ks : List Literal). All (IsOn v.layout.vars) ks) (sym made) w.on) c.make_room.ensures.noted.0 c.make_room.ensures.noted.1
     _ same.lines same.entries same.ended same.kept c.write.new.self c.in-Err-write.ensures refl refl refl in
     record { noted = c.make_room.ensures.noted.0; refused = c.make_room.ensures.noted.1; turn = f.0; grounded = f.1; alike = λ ne. absurd (ne refl) }

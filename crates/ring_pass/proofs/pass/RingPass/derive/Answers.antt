@@ -26,7 +26,7 @@ pub invariant_of-self : goal.invariant_of-self
 invariant_of-self g c =
     let e = c.add_clause-added.ensures in
     let f = c.in-Ok.ensures.added in (
-      ring_adds c.add_clause-added.new.pass Derive c.args.lits.now c.args.glue c.in-Ok.cell.address c.self.inside.last c.self.invariant.0 e.pass.0 e.pass.1 e.pass.2 f,
+      ring_adds c.add_clause-added.new.pass Derive c.args.lits.now c.args.glue c.in-Ok.cell.address c.self.inside.last c.self.invariant.0 e.pass.0 e.pass.1 e.pass.2 f (long_here c.requires.long c.requires.clause),
       room_adds c.self.inside.pass.me.0 c.add_clause-added.new.pass.me.0 Derive c.args.lits.now c.args.glue c.in-Ok.cell.address c.self.inside.last c.self.inside.waiting.items (vec_capacity c.self.inside.waiting) f c.self.invariant.1,
       units_adds c.self.inside.pass.me.0 c.add_clause-added.new.pass.me.0 Derive c.args.lits.now c.args.glue c.in-Ok.cell.address c.self.inside.seen.items (vec_capacity c.self.inside.seen) (vec_capacity c.self.inside.arrived) f c.self.invariant.2,
       offer_adds c.self.inside.pass.me.0 c.add_clause-added.new.pass.me.0 Derive c.args.lits.now c.args.glue c.in-Ok.cell.address c.self.inside.last c.self.inside.spares f c.self.invariant.3,

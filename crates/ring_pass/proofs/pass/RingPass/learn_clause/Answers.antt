@@ -52,7 +52,7 @@ invariant_of-self-in-Ok g c =
     let room = on_ok c.reserve.result _ c.is_err.result c.is_err.ensures.value c.if-is_err.false c.reserve.ensures.ok in
     let len = c.reserve.ensures.len in
     let items = ap length c.reserve.ensures.items in (
-      ring_adds c.add_clause-added.new.pass Learn c.args.lits.now c.args.glue c.in-Ok.cell.address (Some c.in-Ok.cell) c.self.invariant.0 e.pass.0 e.pass.1 e.pass.2 f,
+      ring_adds c.add_clause-added.new.pass Learn c.args.lits.now c.args.glue c.in-Ok.cell.address (Some c.in-Ok.cell) c.self.invariant.0 e.pass.0 e.pass.1 e.pass.2 f (long_here c.requires.long c.requires.clause),
       room_learns v w c.self.invariant.0.pass.3 c.args.lits.now c.args.glue c.in-Ok.cell c.self.inside.last c.self.inside.waiting.items c.reserve.new.self.items (vec_capacity c.self.inside.waiting) (vec_capacity c.reserve.new.self) f c.reserve.ensures.items (omega arith) c.self.invariant.1,
       units_adds v w Learn c.args.lits.now c.args.glue c.in-Ok.cell.address c.self.inside.seen.items (vec_capacity c.self.inside.seen) (vec_capacity c.self.inside.arrived) f c.self.invariant.2,
       offer_learns v w c.args.lits.now c.args.glue c.in-Ok.cell c.self.inside.last c.self.inside.spares c.make_spares.new.spares f made.0 (omega arith) (made.2) made.3 c.make_spares.ensures.places c.self.invariant.3,

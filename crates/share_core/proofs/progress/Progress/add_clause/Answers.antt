@@ -7,7 +7,7 @@ use Rattle.rup_model.specs.Journal.{lines}
 use Rattle.share_core.specs.declared.ring.RingState.{RingState}
 use Rattle.share_core.specs.declared.progress.Progress.{Progress}
 use Rattle.share_core.specs.Machine.{CoreData, data_of, state_of}
-use Rattle.share_core.proofs.Shown.{lines_added}
+use Rattle.share_core.proofs.Shown.{kept_longer, lines_added}
 use Rattle.share_core.proofs.Lookups.{begin_shown}
 use Rattle.share_core.proofs.progress.Progress.add_clause.Goals as goal
 
@@ -24,7 +24,7 @@ returns-clause-after c =
     let making : c.push-2.new.self ≡ m.making ++ record { address = c.args.address; number = c.in_ok-number.number; lits = c.args.lits.now } ∷ [] =
     c.in_ok-push-2.ensures ∙ ap (λ (ls : List Literal). m.making ++ record { address = c.args.address; number = c.in_ok-number.number; lits = ls } ∷ []) c.in_ok-from_slice-2.ensures in
     ap (λ (p : Progress). state_of (data_of c.args.origin.now (record p { cells = c.push.new.self; rings = with_item p.rings c.args.ring (record m { making = c.push-2.new.self; ticket = c.ticket_after-own.result }) }))) after
-    ∙ begin_shown d c.args.ring m c.requires.enabled.0 own c.args.kind c.args.lits.now c.args.address c.in_ok-number.number c.push-2.new.self c.ticket_after-own.result c.push.new.self.items
+    ∙ begin_shown d c.args.ring m c.requires.enabled.0 own (kept_longer d c.requires.kept) c.args.kind c.args.lits.now c.args.address c.in_ok-number.number c.push-2.new.self c.ticket_after-own.result c.push.new.self.items
     (c.args.self.now.journal ++ Add (record { ring = c.args.ring; number = c.in_ok-number.number; lits = c.args.lits.now; kind = c.args.kind }) ∷ []) c.in_ok-number.ensures.number c.requires.enabled.4 c.ticket_after-own.ensures making cells refl
 
 pub returns-clause-logged : goal.returns-clause-logged

@@ -1,0 +1,4 @@
+pub mod Learned
+pub mod Journals
+pub mod OneRound
+pub mod AllRounds

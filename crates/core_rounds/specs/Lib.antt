@@ -1,0 +1,2 @@
+pub mod InRounds
+pub mod Rounds

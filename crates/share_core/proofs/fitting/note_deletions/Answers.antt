@@ -1,0 +1,36 @@
+use Rattle.std.proofs.Common.{◌∙◌, ◌++◌, ◌∷◌, [], List, Option, ℕ, IfSome, length, take, sym, ap, subst, arith}
+use Rattle.std.proofs.lemmas.List.{take_all, take_more, length-take-le}
+use Rattle.sat_words.specs.declared.line.Line.{Line}
+use Rattle.rup_model.specs.declared.journal.Entry.{Entry}
+use Rattle.rup_model.specs.Journal.{book}
+use Rattle.share_core.specs.NextRound.{IsDeletion, AreDeleted}
+use Rattle.share_core.proofs.RoundFitting.{deleted_none, deleted_more, deleted_room}
+use Rattle.share_core.proofs.fitting.note_deletions.Goals as goal
+
+pub loop-line-init : goal.loop-line-init
+loop-line-init c = deleted_none c.args.clauses.now c.args.journal.now c.args.kept.now
+
+pub deleted_by-requires : goal.deleted_by-requires
+deleted_by-requires c =
+    let n = deleted_room c.args.clauses.now c.args.journal.now c.args.kept.now (take c.loop-line.line-index c.args.lines.now) c.loop-line.journal c.loop-line.invariant in
+    let t = length-take-le c.loop-line.line-index c.args.lines.now c.loop-line.auto.line-index-end in
+    let e = ap length c.as_slice.ensures in
+    let r = c.requires in
+    let b = c.loop-line-test.true in omega arith
+
+pub loop-line-preserved : goal.loop-line-preserved
+loop-line-preserved c =
+    let F = c.args.clauses.now in
+    let i = c.loop-line.line-index in
+    let J = c.args.journal.now in
+    let own : IsDeletion (book F c.as_slice.result.now) c.args.kept.now c.line-item.result c.in-Some.number =
+    subst (λ (o : Option ℕ). IfSome o (λ n. IsDeletion (book F c.as_slice.result.now) c.args.kept.now c.line-item.result n)) c.in-Some.is c.in_ok-number.ensures in
+    let here : IsDeletion (book F c.loop-line.journal) c.args.kept.now c.line-item.result c.in-Some.number =
+    subst (λ (K : List Entry). IsDeletion (book F K) c.args.kept.now c.line-item.result c.in-Some.number) c.as_slice.ensures own in
+    let more = deleted_more F J c.args.kept.now (take i c.args.lines.now) c.loop-line.journal c.line-item.result c.in-Some.number c.loop-line.invariant here in
+    let next = take_more c.args.lines.now i c.line-item.result c.loop-line-test.true ∙ ap (λ (l : Line). take i c.args.lines.now ++ l ∷ []) (sym c.line-item.is) in
+    subst (λ (L : List Line). AreDeleted F J c.args.kept.now L c.push.new.self) (sym next)
+    (subst (AreDeleted F J c.args.kept.now (take i c.args.lines.now ++ c.line-item.result ∷ [])) (sym c.in_ok-push.ensures) more)
+
+pub returns : goal.returns
+returns c _ = subst (λ (L : List Line). AreDeleted c.args.clauses.now c.args.journal.now c.args.kept.now L c.loop-line.journal) (take_all c.loop-line.line-index c.args.lines.now c.loop-line-test.false) c.loop-line.invariant

@@ -1,0 +1,160 @@
+//! Whether a round may begin with given deletions, start clauses and units.
+//! The executable core, which the program never runs: it makes the definitions of specs/ run, for tests.
+ghost use Rattle.std.specs.Prelude.{◌≡◌, ◌≤◌, ◌+◌, ◌==◌, ◌||◌, ◌&&◌, ◌∷◌, [], length, true, IfOk, IfSome};
+ghost use Rattle.std.specs.List.{list_any, list_all};
+ghost use Rattle.sat_words.specs.Clause.{clause_of, distinct_lits};
+ghost use Rattle.rup_model.specs.Journal.{book, is_told};
+ghost use Rattle.share_core.specs.declared.stored.ClauseAt.{ClauseAt};
+ghost use Rattle.share_core.specs.declared.ring.RingState.{RingState};
+ghost use Rattle.share_core.specs.Machine.{data_of, state_of, Kept};
+ghost use Rattle.share_core.specs.NextRound.{IsDeletion, AreDeleted, may_start, stand_apart, MayBegin};
+
+use crate::guards::{are_distinct, is_long};
+use crate::items::Items;
+use crate::journal::{is_ended, is_told};
+use crate::progress::{Origin, Progress};
+use crate::ring::RingState;
+use crate::rounds::{find_spare, in_order, numbers_of, starts_in};
+use crate::stored::ClauseAt;
+use rup_model::{Entry, RULER_RING, Round, StartNumbers};
+use sat_words::{Clause, Line, Lit, Lits, MAX_ENTRIES};
+use std::alloc::{AllocError, Global};
+
+/// Whether no ring builds a cell.
+fn is_still(rings: &[RingState]) -> bool
+    ensures { result ≡ list_all (λ (x : RingState). length x.making == 0) rings.now }
+{
+    rings.iter().all(|x| x.making.len() == 0)
+}
+
+/// Whether the literals are in the order of `Clause`.
+fn is_in_order(alloc: Global, lits: &Lits) -> Result<bool, AllocError>
+    ensures { IfOk result (λ yes. yes ≡ true → clause_of lits.now ≡ lits.now) }
+{
+    Ok(in_order(alloc, lits.as_slice())? == *lits)
+}
+
+/// The number that the line deletes, if it deletes a long clause in order that has a spare copy.
+fn deleted_by(
+    alloc: Global,
+    clauses: &[Clause],
+    journal: &[Entry],
+    kept: &[u64],
+    line: &Line,
+) -> Result<Option<u64>, AllocError>
+    requires { length journal.now ≤ MAX_ENTRIES }
+    ensures { IfOk result (λ found. IfSome found (λ n. IsDeletion (book clauses.now journal.now) kept.now line.now n)) }
+{
+    match line {
+        Line::Add(_) => Ok(None),
+        Line::Del(lits) => {
+            if !is_long(lits.as_slice()) || !is_in_order(alloc, lits)? {
+                return Ok(None);
+            }
+            find_spare(alloc, clauses, journal, kept, lits.as_slice())
+        }
+    }
+}
+
+/// Notes the deletions after the journal, and says whether all of them could be noted.
+fn note_deletions(
+    alloc: Global,
+    clauses: &[Clause],
+    kept: &[u64],
+    lines: &[Line],
+    journal: &mut Items<Entry>,
+) -> Result<bool, AllocError>
+    requires { length journal.old + length lines.now ≤ MAX_ENTRIES }
+    ensures { IfOk result (λ yes. yes ≡ true → AreDeleted clauses.now journal.old kept.now lines.now journal.new) }
+{
+    for line in lines {
+        let Some(number) = deleted_by(alloc, clauses, journal.as_slice(), kept, line)? else {
+            return Ok(false);
+        };
+        journal.push(Entry::Del {
+            ring: RULER_RING,
+            number,
+        })?;
+    }
+    Ok(true)
+}
+
+fn may_start(s: &ClauseAt) -> bool
+    ensures { result ≡ may_start s.now }
+{
+    s.address != 0 && is_long(s.lits.as_slice())
+}
+
+fn all_may_start(starts: &[ClauseAt]) -> bool
+    ensures { result ≡ list_all may_start starts.now }
+{
+    starts.iter().all(|s| may_start(s))
+}
+
+fn stands_among(s: &ClauseAt, starts: &[ClauseAt]) -> bool
+    ensures { result ≡ list_any (λ (h : ClauseAt). (h.address == s.now.address) || (h.number == s.now.number)) starts.now }
+{
+    starts
+        .iter()
+        .any(|h| h.address == s.address || h.number == s.number)
+}
+
+fn stand_apart(starts: &[ClauseAt]) -> bool
+    ensures { result ≡ stand_apart starts.now }
+{
+    match starts {
+        [] => true,
+        [first, rest @ ..] => !stands_among(first, rest) && stand_apart(rest),
+    }
+}
+
+fn all_told(clauses: &[Clause], journal: &[Entry], units: &[Lit]) -> bool
+    ensures { result ≡ list_all (is_told clauses.now journal.now) units.now }
+{
+    units.iter().all(|lit| is_told(clauses, journal, *lit))
+}
+
+/// Whether rings may start with these after the journal, if the clauses are alive.
+fn all_fit(clauses: &[Clause], journal: &[Entry], starts: &[ClauseAt], units: &[Lit]) -> bool
+    ensures { result ≡ (list_all may_start starts.now && (stand_apart starts.now && (list_all (is_told clauses.now journal.now) units.now && distinct_lits units.now))) }
+{
+    all_may_start(starts)
+        && stand_apart(starts)
+        && all_told(clauses, journal, units)
+        && are_distinct(units)
+}
+
+/// Whether the next round may begin with these; no is no answer where a line is an addition.
+pub(crate) fn may_begin(
+    alloc: Global,
+    origin: &Origin,
+    progress: &Progress,
+    lines: &[Line],
+    start: &[(u64, u64)],
+    units: &[Lit],
+    limit: u64,
+) -> Result<bool, AllocError>
+    requires { Kept (data_of origin.now progress.now) }
+    ensures { IfOk result (λ yes. yes ≡ true → MayBegin (state_of (data_of origin.now progress.now)) lines.now start.now units.now limit) }
+{
+    let clauses = origin.formula.clauses();
+    let mut journal = progress.journal.copied(alloc)?;
+    if !is_still(progress.rings.as_slice())
+        || is_ended(clauses, journal.as_slice())
+        || limit > 1 << 63
+        || journal.len() as u64 >= MAX_ENTRIES
+        || lines.len() as u64 >= MAX_ENTRIES - journal.len() as u64
+    {
+        return Ok(false);
+    }
+    let kept = numbers_of(alloc, start)?;
+    if !note_deletions(alloc, clauses, kept.as_slice(), lines, &mut journal)? {
+        return Ok(false);
+    }
+    journal.push(Entry::Round(Round {
+        starts: StartNumbers::from_slice(alloc, kept.as_slice())?,
+        units: Lits::from_slice(alloc, units)?,
+    }))?;
+    let starts = starts_in(alloc, clauses, journal.as_slice(), start)?;
+    Ok(all_fit(clauses, journal.as_slice(), starts.as_slice(), units))
+}

@@ -1,6 +1,0 @@
-use Rattle.std.proofs.Common.{◌≡◌, take}
-use Rattle.simp_base.specs.WorkState.{lists}
-use Rattle.test_simplifiers.proofs.following.clauses_of.Given as goal
-
-abbrev pub invariant-loop-cell : goal.invariant-loop-cell
-invariant-loop-cell g l = l.clauses.items ≡ lists (take l.cell-index l.cell-items)

@@ -367,16 +367,18 @@ def check_answer(variables, clauses, status, out, err, proof, satisfiable, check
 
 class Options:
     """How the program is to decide: by how many rings, with how many words for clauses, slots for each two rings and class, and
-    lemmas for all rings, from which seed, whether it simplifies, may add variables and checks its log, and whether the proof is in
-    binary. None leaves an option out."""
+    lemmas for all rings and in a round, from which seed, whether it simplifies, may add variables and checks its log, and whether the
+    proof is in binary. None leaves an option out. Short rounds may never end, so there is a limit of lemmas with them."""
 
     def __init__(self, rng, simplified):
         self.simplified, self.checked, self.binary, self.adds = simplified, rng.random() < 0.5, rng.random() < 0.5, rng.random() < 0.5
+        limit, every = rng.choice([(None, None)] * 6 + [(1, None), (10, None)] * 2 + [(3, 1), (10, 3), (100, 5), (200, 50)])
         self.numbers = {
             "--threads": rng.choice([1, 2, 4, 8, 16]),
             "--words": rng.choice([64, 256, 1024] + [65536] * 6) if rng.random() < 0.95 else None,
             "--slots": rng.choice([None, 1, 3, 16]),
-            "--conflicts": rng.choice([None] * 4 + [1, 10]),
+            "--conflicts": limit,
+            "--round": every,
             "--seed": rng.choice([None, rng.getrandbits(63)]),
         }
 
@@ -384,6 +386,11 @@ class Options:
         named = [word for name, number in self.numbers.items() if number is not None for word in (name, str(number))]
         flags = {"--check": self.checked, "--binary": self.binary, "--add": self.adds, "--no-simplify": not self.simplified}
         return named + [flag for flag, is_used in flags.items() if is_used]
+
+    def rings_alone(self, clauses):
+        """How many rings there are, if nothing else writes a line: no simplifier, and no unit of the formula or of a round before."""
+        writes = self.simplified or self.numbers["--round"] is not None or any(len(set(clause)) < 2 for clause in clauses)
+        return None if writes else self.numbers["--threads"]
 
 
 def has_more_variables(variables, proof, binary):
@@ -422,7 +429,7 @@ def run(program, folder, variables, clauses, satisfiable, text, from_file, optio
         options.numbers["--conflicts"],
         options.numbers["--words"] is not None,
         options.binary,
-        options.numbers["--threads"] if not options.simplified and all(len(set(clause)) > 1 for clause in clauses) else None,
+        options.rings_alone(clauses),
     )
     more = has_more_variables(variables, proof, options.binary)
     if more and not (options.adds and options.simplified):
@@ -456,6 +463,8 @@ def statuses():
         "--slots 0",
         "--slots 17",
         "--conflicts 0",
+        "--round 0",
+        "--round 1000000000001",
         "--proof",
         "--other",
         "--help",
@@ -501,6 +510,7 @@ def statuses():
     accepted = "c proof accepted\n"
     yield Case(0, [*alone, "1", "--make", "0", "--check", "--no-simplify"], stdout=made + accepted + "s UNKNOWN\n")
     yield Case(0, [*alone, "9", "--check", "input"], MODEL, pigeonhole, stdout=accepted + "s UNKNOWN\n", here=["input"])
+    yield Case(0, [*alone, "3", "--round", "1", "--check", "--no-simplify"], pigeonhole, stdout=accepted + "s UNKNOWN\n")
     chain = b"p cnf 15 13\n" + b"".join(b"%d %d %d 0\n" % (i, i + 1, i + 2) for i in range(1, 14))
     yield Case(8, ["--no-simplify", "--words", "64"], chain, stderr="gimsatul: no room: need 5, largest hole 4\n")
     # six pigeons in five holes take 336 words: six clauses of 6 words, and 75 of 4

@@ -51,6 +51,8 @@ struct Row {
     compares_learned: bool,
     /// What the numbers add up to, if that is compared.
     together: Option<u64>,
+    /// The least that they may add up to.
+    at_least: u64,
     need: u64,
     largest: u64,
     code: u8,
@@ -82,6 +84,7 @@ const PLAIN: Row = Row {
     learned: &[],
     compares_learned: true,
     together: None,
+    at_least: 0,
     need: 0,
     largest: 0,
     code: 0,
@@ -157,6 +160,7 @@ fn check_tally(rt: &impl Abort, row: &Row, tally: &Tally) {
     if let Some(together) = row.together {
         assert_eq!(rt; sum_of(learned), together);
     }
+    assert!(rt; row.at_least <= sum_of(learned));
     check_offers(rt, tally);
     assert_eq!(rt; tally.need, row.need);
     assert_eq!(rt; tally.largest, row.largest);
@@ -725,7 +729,7 @@ fn words_that_are_refused(rt: HostRuntime) -> Result<(), Fail> {
         proof: None,
         ..PLAIN
     };
-    let table: [&[&str]; 31] = [
+    let table: [&[&str]; 35] = [
         &["--seed", "-1"],
         &["--seed", "9223372036854775808"],
         &["--seed", "1", "--seed", "1"],
@@ -755,6 +759,10 @@ fn words_that_are_refused(rt: HostRuntime) -> Result<(), Fail> {
         &["--proof", "P", "--proof", "P"],
         &["--conflicts", "0"],
         &["--conflicts", "1000000000001"],
+        &["--round", "0"],
+        &["--round", "1000000000001"],
+        &["--round", "1", "--round", "1"],
+        &["--round"],
         &["--no-simplify=1"],
         &["a.cnf", "b.cnf"],
     ];
@@ -767,7 +775,7 @@ fn words_that_are_taken(rt: HostRuntime) -> Result<(), Fail> {
         out: b"s SATISFIABLE\nv 0\n",
         ..MODEL
     };
-    let table: [&[&str]; 12] = [
+    let table: [&[&str]; 14] = [
         &["--seed", "9223372036854775807"],
         &["--walk", "1000000000"],
         &["--slots", "1"],
@@ -777,6 +785,8 @@ fn words_that_are_taken(rt: HostRuntime) -> Result<(), Fail> {
         &["--threads", "04"],
         &["--conflicts", "1000000000000"],
         &["--no-simplify", "--conflicts=+07"],
+        &["--round", "1"],
+        &["--round", "1000000000000"],
         &["--add"],
         &["--add", "--no-simplify"],
         &["--"],
@@ -1046,6 +1056,10 @@ fn six_pigeons_in_five_holes(rt: HostRuntime) -> Result<(), Fail> {
     check_row(&rt, row, 65536)
 }
 
+/// All clauses of three literals on three variables.
+const THREE_VARIABLES: &[u8] =
+    b"p cnf 3 8\n1 2 3 0\n1 2 -3 0\n1 -2 3 0\n1 -2 -3 0\n-1 2 3 0\n-1 2 -3 0\n-1 -2 3 0\n-1 -2 -3 0\n";
+
 /// The lines of the log are checked at each verdict, with a proof and without one.
 #[test]
 fn checked_logs(rt: HostRuntime) -> Result<(), Fail> {
@@ -1302,4 +1316,38 @@ fn lemmas_of_all_rings(rt: HostRuntime) -> Result<(), Fail> {
     };
     check_row(&rt, row, 65536)?;
     check_row(&rt, checked, 65536)
+}
+
+/// In rounds of one lemma the rings learn as many together as they may, and one log is accepted.
+#[test]
+fn rounds_of_one_lemma(rt: HostRuntime) -> Result<(), Fail> {
+    let row = Row {
+        words: &[
+            "--threads",
+            "1",
+            "--conflicts",
+            "3",
+            "--round",
+            "1",
+            "--no-simplify",
+        ],
+        input: PIGEONS,
+        status: 0,
+        out: b"s UNKNOWN\n",
+        compares_proof: false,
+        learned: &[3],
+        ..PLAIN
+    };
+    let refuted = Row {
+        words: &["--threads", "4", "--no-simplify", "--check", "--round", "1"],
+        input: THREE_VARIABLES,
+        status: 20,
+        out: b"c proof accepted\ns UNSATISFIABLE\n",
+        learned: &[0, 0, 0, 0],
+        compares_learned: false,
+        at_least: 3,
+        ..row
+    };
+    check_row(&rt, row, 65536)?;
+    check_row(&rt, refuted, 65536)
 }

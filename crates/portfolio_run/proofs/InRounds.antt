@@ -1,5 +1,5 @@
 -- A journal in rounds goes on: with entries of the ruler, with one that begins a round, and with those of the round's rings.
-use Rattle.std.proofs.Common.{◌≡◌, ◌∙◌, ◌==◌, ◌<◌, ◌≤◌, ◌^◌, ◌&&◌, ◌||◌, ℕ, Bool, true, false, not, List, [], ◌∷◌, ◌++◌, get_or, All, Option, Some, None, refl, sym, ap, subst, arith, append-nil, inl, inr}
+use Rattle.std.proofs.Common.{◌≡◌, ◌∙◌, ◌==◌, ◌<◌, ◌≤◌, ◌^◌, ◌&&◌, ◌||◌, ℕ, Bool, true, false, not, List, [], ◌∷◌, ◌++◌, get_or, All, Some, refl, sym, ap, subst, arith, append-nil, inl, inr}
 use Rattle.std.specs.List.{list_any}
 use Rattle.std.proofs.lemmas.Bool.{true≢false}
 use Rattle.std.proofs.lemmas.List.Elements.{All-append}
@@ -10,7 +10,7 @@ use Rattle.rup_model.specs.declared.journal.TheConstants.{RULER_RING}
 use Rattle.rup_model.specs.declared.journal.Round.{Round as RoundStart}
 use Rattle.rup_model.specs.declared.journal.Entry.{Entry}
 use Rattle.rup_model.specs.declared.journal.Entry.TheVariants.{Add, Del, Reduce, Round}
-use Rattle.rup_model.specs.Journal.{formula_book, ring_of, added, lines, fresh, LogSound, IsSpaced}
+use Rattle.rup_model.specs.Journal.{formula_book, ring_of, added, fresh, LogSound, IsSpaced}
 use Rattle.rup_model.specs.Opening.{Opening, start_clauses, is_rulers, adds_unit, is_new, IsNew}
 use Rattle.rup_model.specs.Windows.{begins_round, since_round, opening_by, round_opening, IsNewInRound, IsSpacedInRound}
 use Rattle.rup_model.proofs.Additions.{added-append}
@@ -20,6 +20,7 @@ use Rattle.rup_model.proofs.Windowing.{NewBy, SpacedBy, alone_in_round, rings_be
 use Rattle.core_rounds.specs.InRounds.{IsOfRounds}
 use Rattle.ring_run.specs.Ended.{IsOwn}
 use Rattle.portfolio_run.specs.Journaled.{IsRingsEntry, IsPlainEntry, IsProgramRound, BeginsWell, IsJournal}
+use Rattle.portfolio_run.specs.Pauses.{StandsInRounds}
 use Rattle.portfolio_run.proofs.Rulers.{AreRulers}
 use Rattle.portfolio_run.proofs.Interleaving.{cons_All, first_All, later_All, own, all_of, interleaved, new_local, spaced_local, any_alike}
 use Rattle.portfolio_run.proofs.Spelling.{formula_on, spelled_from}
@@ -100,16 +101,6 @@ on_of vars (Reduce r ∷ es) all = on_of vars es (later_All (λ e. IsOwn (ring_o
 on_of vars (Round x ∷ es) all = on_of vars es (later_All (λ e. IsOwn (ring_of e) vars e) (Round x) es all)
 
 -- What stands of a journal in rounds, entry by entry
-
--- its clauses are on the variables; each entry is the ruler's, begins a round as the program's opening says, or is a ring's; what is
--- learned is new in its round, and reductions are spaced there
-pub record StandsInRounds (vars rings : ℕ) (F : List (List Literal)) (J : List Entry) : Type 0 where
-  pub on : All (All (IsOn vars)) (added J)
-  pub of_rounds : All (IsOfRounds rings) J
-  pub plain : All IsPlainEntry J
-  pub begins : EachAfter (BeginsWell F) [] J
-  pub each_new : EachAfter (IsNewInRound F) [] J
-  pub spaced : EachAfter IsSpacedInRound [] J
 
 module _ (vars rings : ℕ) (F : List (List Literal)) where
   pub none_stands : StandsInRounds vars rings F []

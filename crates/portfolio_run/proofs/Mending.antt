@@ -10,7 +10,7 @@ use Rattle.sat_words.specs.Truth.{lit_true, clause_true, formula_true}
 use Rattle.sat_words.specs.FormulaData.{FormulaData}
 use Rattle.clause_cell.specs.Packing.{words_for}
 use Rattle.rup_model.specs.declared.journal.Entry.{Entry}
-use Rattle.rup_model.specs.Journal.{book, LogSound}
+use Rattle.rup_model.specs.Journal.{book}
 use Rattle.rup_model.specs.Opening.{Start}
 use Rattle.rup_model.specs.Windows.{opening_by}
 use Rattle.model_stack.specs.declared.stack.Fix.{Fix}
@@ -26,12 +26,12 @@ use Rattle.ring_pass.specs.RingState.{holding_of}
 use Rattle.simp_base.specs.WorkState.{IsFixOn, lists, unit_clauses}
 use Rattle.ruler_simp.specs.declared.ruling.Simplified.{Simplified}
 use Rattle.ruler_simp.specs.Left.{start_of as left_start}
-use Rattle.ruler_simp.specs.Ruled.{IsSimplified}
 use Rattle.ruler_simp.specs.Again.{round_start, before_round}
+use Rattle.portfolio_run.specs.Pauses.{IsLeft}
 use Rattle.portfolio_run.specs.Solved.{IsModel}
 use Rattle.portfolio_run.proofs.Cutting.{formula_cut}
 use Rattle.portfolio_run.proofs.InRounds.{IsAlike}
-use Rattle.portfolio_run.proofs.Opens.{by_numbers, opens_there}
+use Rattle.portfolio_run.proofs.Opens.{by_numbers}
 
 abbrev Pair : Type 0
 Pair = ℕ × List Literal
@@ -81,11 +81,11 @@ extended_long vars (fix ∷ S) a on long =
     let high = lit.high in
     length-mended (extend S a) fix lit.low (omega (arith, rest, high)) ∙ rest
 
-module _ (F : FormulaData) (J0 : List Entry) (left : Simplified) (h : IsSimplified F J0 left) (gs : List GlueAt) (k : ℕ) where
+module _ (F : FormulaData) (J0 : List Entry) (left : Simplified) (h : IsLeft F J0 left) (gs : List GlueAt) (k : ℕ) where
   -- what the rings' ports start from is what their round begins with
-  pub alike : LogSound F.clauses J0 → IsAlike (record { journal = []; starts = map start_of (map (holding_of gs) (starts_at k left.start.items)); units = left.units.items }) (opening_by F.clauses (before_round J0 left) (Some (round_start left)))
-  alike sound = record {
-    starts = held_lits gs k left.start.items ∙ sym (by_numbers (book F.clauses (before_round J0 left)) left.start.items (opens_there F J0 left h sound).starts);
+  pub alike : IsAlike (record { journal = []; starts = map start_of (map (holding_of gs) (starts_at k left.start.items)); units = left.units.items }) (opening_by F.clauses (before_round J0 left) (Some (round_start left)))
+  alike = record {
+    starts = held_lits gs k left.start.items ∙ sym (by_numbers (book F.clauses (before_round J0 left)) left.start.items h.opens.starts);
     units = λ l. refl;
   }
 

@@ -1,11 +1,11 @@
 -- The journal of a run in its last round: what stood before it, the entry that begins it, and the entries of the rings among each
 -- other.
-use Rattle.std.proofs.Common.{◌≡◌, ◌∙◌, ◌<◌, ◌≤◌, ◌^◌, ◌||◌, ℕ, Bool, true, false, List, [], ◌∷◌, ◌++◌, Option, Some, None, refl, sym, ap, subst, arith, append-nil}
+use Rattle.std.proofs.Common.{◌≡◌, ◌∙◌, ◌<◌, ◌≤◌, ◌^◌, ◌||◌, ℕ, Bool, true, false, List, [], ◌∷◌, ◌++◌, Option, Some, sym, ap, append-nil}
 use Rattle.std.specs.Prelude.{All}
 use Rattle.std.specs.Option.{is_some}
 use Rattle.std.specs.List.{list_any}
 use Rattle.std.proofs.lemmas.List.Folds.{list_any-append}
-use Rattle.sat_words.specs.Literal.{Literal, IsOn}
+use Rattle.sat_words.specs.Literal.{IsOn}
 use Rattle.sat_words.specs.Clause.{is_empty}
 use Rattle.sat_words.specs.declared.line.Line.{Line}
 use Rattle.sat_words.specs.FormulaData.{FormulaData}
@@ -27,9 +27,10 @@ use Rattle.core_rounds.specs.InRounds.{learned_by, IsDueInRounds}
 use Rattle.ring_run.specs.declared.job.Counts.{Counts}
 use Rattle.portfolio_run.specs.Held.{IsHeld, NeverGone}
 use Rattle.portfolio_run.specs.Journaled.{IsProgramRound, IsJournal, IsUnrefuted}
+use Rattle.portfolio_run.specs.Pauses.{StandsInRounds}
 use Rattle.portfolio_run.specs.Solved.{IsRefutation, IsUnsettled}
 use Rattle.portfolio_run.specs.Spent.{LearnedAll}
-use Rattle.portfolio_run.proofs.InRounds.{HasWritten, IsAlike, StandsInRounds, round_stands, rings_stand, none_begins, journal_of_rounds}
+use Rattle.portfolio_run.proofs.InRounds.{HasWritten, IsAlike, round_stands, rings_stand, none_begins, journal_of_rounds}
 use Rattle.portfolio_run.proofs.Interleaving.{own, own-append, own_none, own_adds_none, none_adds}
 
 on_variables : (L : List Line) → CanBeSpelled L → OnVariables L
@@ -68,7 +69,7 @@ module _ (F : FormulaData) (J0 : List Entry) (x : RoundStart) (K : List Entry) (
   abbrev J : List Entry
   J = I ++ K
 
-  stands : StandsInRounds F.vars rings F.clauses J
+  pub stands : StandsInRounds F.vars rings F.clauses J
   stands = rings_stand F.vars rings F.clauses J0 x K t.few_rings t.of_rings o t.same t.each (round_stands F.vars rings F.clauses J0 x t.stood t.begins)
 
   pub journal_stands : IsJournal rings F.clauses J
@@ -78,7 +79,7 @@ module _ (F : FormulaData) (J0 : List Entry) (x : RoundStart) (K : List Entry) (
   going_there = ap (list_any is_empty) (adds_nothing J0 x) ∙ t.going
 
   -- no ring added the empty clause
-  unrefuted : ((r : ℕ) → r < rings → IsUnrefuted (own r K)) → IsUnrefuted J
+  pub unrefuted : ((r : ℕ) → r < rings → IsUnrefuted (own r K)) → IsUnrefuted J
   unrefuted none =
       ap (list_any is_empty) (added-append I K) ∙ list_any-append is_empty (added I) (added K)
       ∙ (λ i. going_there i || none_adds is_empty rings K t.of_rings none i)

@@ -3,6 +3,7 @@ use Rattle.std.proofs.Common.{◌≡◌, ◌∙◌, ◌==◌, ◌<◌, ◌&&◌,
 use Rattle.std.specs.List.{filter, list_all, prefix_len}
 use Rattle.std.specs.Option.{is_none}
 use Rattle.std.proofs.lemmas.Bool.{and_parts, eqb-true, true≢false}
+use Rattle.std.proofs.lemmas.List.Sums.{take_while-cons}
 use Rattle.std.proofs.Math.Seq.{take-append_seam}
 use Rattle.rup_model.specs.declared.journal.TheConstants.{RULER_RING}
 use Rattle.rup_model.specs.declared.journal.Addition.{Addition}
@@ -70,3 +71,11 @@ front_is J0 x K rulers =
     ap ruler_part (append_assoc J0 (Round x ∷ []) K)
     ∙ ap (λ (n : ℕ). take n (J0 ++ Round x ∷ K)) (front_many J0 (Round x ∷ K) rulers refl)
     ∙ take-append_seam J0 (Round x ∷ K)
+
+-- and what stands before that is the ruler's part as far as it was
+pub front_stays : (J : List Entry) (x : RoundStart) (K : List Entry) → ruler_part ((J ++ Round x ∷ []) ++ K) ≡ ruler_part J
+front_stays [] x K = refl
+front_stays (e ∷ J) x K =
+    take_while-cons is_rulers e ((J ++ Round x ∷ []) ++ K)
+    ∙ ap (λ (es : List Entry). cond (is_rulers e) (e ∷ es) []) (front_stays J x K)
+    ∙ sym (take_while-cons is_rulers e J)

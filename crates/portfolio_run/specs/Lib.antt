@@ -2,11 +2,13 @@ pub mod Ends
 pub mod Held
 pub mod Jobs
 pub mod Journaled
-pub mod Noted
+pub mod Pauses
 pub mod Ports
 pub mod Reached
+pub mod Resumed
 pub mod Room
 pub mod Ruled
+pub mod Rulings
 pub mod Runs
 pub mod Searched
 pub mod Seats

@@ -17,6 +17,7 @@ use Rattle.clause_cell.specs.declared.holes.HoleStop.TheVariants as hole_stop
 use Rattle.drat_text.specs.declared.stop.LineStop.{LineStop}
 use Rattle.drat_text.specs.declared.stop.LineStop.TheVariants as line_stop
 use Rattle.ruler_simp.specs.declared.ruling.Outcome.{Outcome}
+use Rattle.ruler_simp.specs.declared.ruling.Simplified.{Simplified}
 use Rattle.ruler_simp.specs.Ruled.{Ruled}
 use Rattle.share_core.specs.declared.event.Stop.{Stop}
 use Rattle.share_rule.specs.declared.Layout.{Layout}
@@ -33,7 +34,7 @@ use Rattle.portfolio_run.specs.declared.answer.Answer.{Answer}
 use Rattle.portfolio_run.specs.declared.answer.Answer.TheVariants.{NoHole, ProofFault, Memory}
 use Rattle.portfolio_run.specs.declared.plan.Plan.{Plan}
 use Rattle.portfolio_run.specs.Ends.{AreEndsOf}
-use Rattle.portfolio_run.specs.Noted.{RulersRun}
+use Rattle.portfolio_run.specs.Pauses.{Pause}
 use Rattle.portfolio_run.specs.Ruled.{schedule_of}
 use Rattle.portfolio_run.specs.Runs.{RanAs}
 use Rattle.portfolio_run.specs.Seats.{IsAtRest, IsSameTable, IsSettled}
@@ -59,9 +60,9 @@ module _ {S : Type 0} {d : Ghosts S} (written flushed target : S → Option (Lis
     pub empty : IsEmptyWhereTold (written sink)
     pub ruled : Ruled formula (schedule_of plan) (told_new written flushed target faults plan.format (length formula.clauses) sink plan.keep_lines) (told_of written flushed target faults b) result
 
-  -- its run, as it is known
-  abbrev pub run_to : S → Plan → FormulaData → Book S d → Result Outcome LineStop → RulersRun
-  run_to sink plan formula b result = record { formula = formula; schedule = schedule_of plan; before = told_new written flushed target faults plan.format (length formula.clauses) sink plan.keep_lines; now = told_of written flushed target faults b; result = result }
+  -- what is known where the rings rest with this book, which began with this sink
+  abbrev pub pause_of : S → Plan → FormulaData → Simplified → List Counts → (done : ℕ) → Book S d → Pause
+  pause_of sink plan formula left tally done b = record { plan = plan; formula = formula; left = left; tally = tally; done = done; before = told_new written flushed target faults plan.format (length formula.clauses) sink plan.keep_lines; now = told_of written flushed target faults b }
 
 -- The answer
 

@@ -1,5 +1,5 @@
 -- What it means that there was no room, over the whole journal of a run.
-use Rattle.std.specs.Prelude.{◌≡◌, ◌⊎◌, ◌≤◌, ◌+◌, ℕ, List, ◌++◌, length, Option, Some, None}
+use Rattle.std.specs.Prelude.{◌≡◌, ◌⊎◌, ◌≤◌, ◌+◌, ℕ, List, ◌++◌, length, Option, Some}
 use mathlib.Core.Logic.{inl, inr}
 use Rattle.sat_words.specs.Literal.{Literal}
 use Rattle.sat_words.specs.declared.shared.NoRoom.{NoRoom}
@@ -9,6 +9,7 @@ use Rattle.rup_model.specs.declared.journal.Entry.{Entry}
 use Rattle.rup_model.specs.Opening.{program_opening}
 use Rattle.share_core.specs.declared.part.CoreOpening.{CoreOpening}
 use Rattle.share_core.specs.State.{opening_of}
+use Rattle.core_rounds.specs.InRounds.{learned_by, round_limit}
 use Rattle.share_rule.specs.declared.Layout.{Layout}
 use Rattle.share_rule.specs.FirstWords.{IsNoHole, begun_with}
 use Rattle.share_rule.specs.Tight.{IsTight, numbered}
@@ -16,9 +17,9 @@ use Rattle.ring_run.specs.declared.job.Counts.{Counts}
 use Rattle.portfolio_run.specs.declared.plan.Plan.{Plan}
 use Rattle.portfolio_run.specs.Held.{IsHeld, RestsBetween}
 
--- the layout of a table for the plan's rings, words, slots and lemmas, over so many variables
-abbrev pub layout_of : Plan → ℕ → Layout
-layout_of plan vars = record { rings = plan.threads; vars = vars; words = plan.words; depth = plan.slots; conflicts = plan.conflicts }
+-- the layout of a table for the plan's rings, words and slots, over so many variables, for a round of so many lemmas
+abbrev pub layout_of : Plan → (vars limit : ℕ) → Layout
+layout_of plan vars limit = record { rings = plan.threads; vars = vars; words = plan.words; depth = plan.slots; conflicts = limit }
 
 -- the journal is full, and the numbers count entries
 pub record IsFullJournal (journal : List Entry) (lack : NoRoom) : Type 0 where
@@ -40,5 +41,5 @@ laid_out layout o = begun_with o.formula layout o.journal (numbered (opening_of 
 -- enough. Before the round's rings ran a start clause came next, or after a front of the journal a clause might come next, which
 -- needed more words than the longest free range had; or the journal is full, and the numbers count entries.
 abbrev pub HasNoRoom : (plan : Plan) → ℕ → {every : Option ℕ} {clauses : List (List Literal)} {journal : List Entry} {tally : List Counts} → IsHeld plan.threads plan.slots every plan.conflicts clauses journal tally → NoRoom → Type 0
-HasNoRoom plan vars {every} {clauses} {journal} (inl rests) lack = IsUnplaced (layout_of plan vars) rests lack ⊎ IsFullJournal journal lack
-HasNoRoom plan vars {every} {clauses} {journal} (inr ran) lack = IsTight (layout_of plan vars) (laid_out (layout_of plan vars) ran.last.opening) journal lack.need lack.largest
+HasNoRoom plan vars {every} {clauses} {journal} (inl rests) lack = IsUnplaced (layout_of plan vars (round_limit every plan.conflicts (learned_by plan.threads rests.left))) rests lack ⊎ IsFullJournal journal lack
+HasNoRoom plan vars {every} {clauses} {journal} (inr ran) lack = IsTight (layout_of plan vars ran.last.opening.limit) (laid_out (layout_of plan vars ran.last.opening.limit) ran.last.opening) journal lack.need lack.largest

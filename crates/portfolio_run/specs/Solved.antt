@@ -23,6 +23,7 @@ use Rattle.portfolio_run.specs.Held.{IsHeld, HasStop, NeverGone}
 use Rattle.portfolio_run.specs.Journaled.{IsJournal, IsUnrefuted, IsCutShort}
 use Rattle.portfolio_run.specs.Room.{HasNoRoom}
 use Rattle.portfolio_run.specs.Ruled.{schedule_of, IsRuled, IsRuledThrough}
+use Rattle.portfolio_run.specs.Rulings.{Ruling, vars_after, HasRuledBetween}
 use Rattle.portfolio_run.specs.Spent.{LearnedAll}
 
 -- a value for each variable, which make each clause true
@@ -64,10 +65,10 @@ unfinished Memory = Memory
 -- what the answer says of the formula, the journal and the rings' steps, if a table is over so many variables: a model; a
 -- refutation; the rings together have learned as many lemmas as they may, each of them new in its round; there was no room for what
 -- came next, or no memory, before all was settled
-abbrev pub Holds : (plan : Plan) → ℕ → (formula : FormulaData) → (journal : List Entry) → {tally : List Counts} → IsHeld plan.threads plan.slots None plan.conflicts formula.clauses journal tally → Answer → Type 0
+abbrev pub Holds : (plan : Plan) → ℕ → (formula : FormulaData) → (journal : List Entry) → {tally : List Counts} → IsHeld plan.threads plan.slots plan.round plan.conflicts formula.clauses journal tally → Answer → Type 0
 Holds plan vars formula journal held (Sat model) = IsModel formula model
 Holds plan vars formula journal held Unsat = IsRefutation formula.clauses journal
-Holds plan vars formula journal held Unknown = LearnedAll formula.clauses journal plan.threads None plan.conflicts
+Holds plan vars formula journal held Unknown = LearnedAll formula.clauses journal plan.threads plan.round plan.conflicts
 Holds plan vars formula journal held (NoHole lack) = HasNoRoom plan vars held lack × IsUnsettled held
 Holds plan vars formula journal held ProofFault = ⊤
 Holds plan vars formula journal held Memory = IsUnsettled held
@@ -88,14 +89,17 @@ pub record FaultsFit (plan : Plan) (formula : FormulaData) (journal : List Entry
   pub calm : kind ≢ Some STOP_PROOF → (searched ≡ before) ⊎ ((2 ≤ plan.threads) × IsRuledThrough formula (schedule_of plan) journal)
 
 -- a search has come to this answer, which holds, over this journal: it begins with what the ruler wrote in the plan's rounds, and
--- rounds of the rings leave it, with the stop of this answer; a verdict comes only if the simplifiers came to their end. The table's
--- variables are those that the ruler left. The sink of the proof had failed this often before the search, and this often by then.
+-- rounds of the rings leave it, with the stop of this answer; after each round of the rings the ruler went on as the plan asks; a
+-- verdict comes only if the simplifiers came to their end. The table's variables are those that the ruler left. The sink of the proof
+-- had failed this often before the search, and this often by then.
 pub record IsReached (plan : Plan) (formula : FormulaData) (answer : Answer) (tally : List Counts) (before searched : ℕ) (journal : List Entry) : Type 0 where
   pub stands : IsJournal plan.threads formula.clauses journal
   pub ruled : IsRuled formula (schedule_of plan) journal
-  pub held : IsHeld plan.threads plan.slots None plan.conflicts formula.clauses journal tally
+  pub held : IsHeld plan.threads plan.slots plan.round plan.conflicts formula.clauses journal tally
+  pub rulings : List Ruling
+  pub again : HasRuledBetween (schedule_of plan) ruled.work.vars held rulings
   pub stop : HasStop held (kind_of answer)
-  pub holds : Holds plan ruled.work.vars formula journal held answer
+  pub holds : Holds plan (vars_after ruled.work.vars rulings) formula journal held answer
   pub through : is_verdict answer ≡ true → IsRuledThrough formula (schedule_of plan) journal
   pub faults_fit : FaultsFit plan formula journal before searched (kind_of answer)
 

@@ -1,11 +1,11 @@
-// The journal of the ruler, which only proofs read.
+// The journal after which a round begins, which only proofs read.
 ghost use Rattle.std.specs.Prelude.{List};
 ghost use Rattle.std.specs.Borrow.{ftrue};
 ghost use Rattle.rup_model.specs.declared.journal.Entry.{Entry};
 
 use std::marker::Model;
 
-/// What the ruler wrote. It takes no memory, and does nothing at run time.
+/// What was written before the round. It takes no memory, and does nothing at run time.
 #[derive(Drop)]
 pub(crate) struct Noted {
     pub ghost entries: { List Entry },
@@ -16,13 +16,13 @@ impl Model for Noted {
 }
 
 impl Noted {
-    ghost use Rattle.portfolio_run.specs.Noted.{RulersRun, RanSo, WroteSo};
+    ghost use Rattle.portfolio_run.specs.Pauses.{Pause, IsPaused, IsPausedAt};
 
-    /// The journal of a run of the ruler.
-    pub(crate) fn of_run() -> Noted
-        ghost run: { RulersRun }
-        requires { RanSo run }
-        ensures { WroteSo run result.entries }
+    /// The journal after which the rings rest.
+    pub(crate) fn of_pause() -> Noted
+        ghost pause: { Pause }
+        requires { IsPaused pause }
+        ensures { IsPausedAt pause result.entries }
     {
         Noted {}
     }

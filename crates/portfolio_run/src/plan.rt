@@ -7,6 +7,9 @@ pub struct Plan {
     pub threads: u32,
     /// How many lemmas the rings may learn together, up to 10^12.
     pub conflicts: u64,
+    /// How many of these they may learn in one round, after which the ruler goes on: from 1 to 10^12; if there is no such number, there
+    /// is one round.
+    pub round: Option<u64>,
     /// How many words of 64 bits there are for clauses, up to 2^31.
     pub words: u64,
     /// How many slots each two rings have for each class of clauses, from 1 to 16.

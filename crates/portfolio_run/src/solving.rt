@@ -1,44 +1,29 @@
 // The call: a formula is decided by rings on threads of their own.
-ghost use Rattle.std.specs.Prelude.{◌≡◌, ◌≢◌, ◌≤◌, ◌^◌, ◌⊎◌, All, true, Ok, List, [], replicate, length, is_some, IfOk};
+ghost use Rattle.std.specs.Prelude.{◌≡◌, ◌≢◌, ◌≤◌, ◌^◌, ◌⊎◌, All, [], replicate, length, IfSome};
 ghost use Rattle.std.specs.Option.{option_map};
 ghost use Rattle.io_edge.specs.Paths.{IsEmptyWhereTold};
 ghost use Rattle.sat_words.specs.Literal.{IsOn};
-ghost use Rattle.ruler_simp.specs.declared.ruling.Outcome.TheVariants.{Simplified as LeftOver};
 ghost use Rattle.portfolio_run.specs.Held.{no_counts};
-ghost use Rattle.portfolio_run.specs.Reached.{WasRuled, run_to};
-ghost use Rattle.portfolio_run.specs.Noted.{RulersRun, WroteSo};
-ghost use Rattle.rup_model.specs.declared.journal.Entry.{Entry};
+ghost use Rattle.portfolio_run.specs.Pauses.{IsPaused};
+ghost use Rattle.portfolio_run.specs.Reached.{pause_of};
 ghost use Rattle.portfolio_run.specs.Solved.{IsSolved};
 ghost use Rattle.portfolio_run.specs.declared.answer.Answer.TheVariants as answer;
 
 use crate::answer::{Answer, Solved};
+use crate::counts::none_counted;
 use crate::finish::finish;
-use crate::noted::Noted;
 use crate::plan::Plan;
-use crate::search::search;
-use crate::tables::{Unopened, answer_of_stop, close_table, open_table};
+use crate::rounds::{Ended, Paused, run_round};
+use crate::tables::answer_of_stop;
 use io_edge::Sink;
 use log_book::Book;
 use ring_port::Gate;
 use ring_run::Counts;
-use ruler_simp::{Outcome, Schedule, Simplified, simplify};
+use ruler_simp::{Outcome, Schedule, simplify};
 use sat_words::Formula;
-use std::alloc::{AllocError, Global};
+use std::alloc::Global;
 use std::sync::Wait;
 use std::thread::Threads;
-
-/// The counts of rings that have not run.
-fn none_counted(alloc: Global, rings: u32) -> Result<Vec<Counts>, AllocError>
-    ensures { IfOk result (λ tally. tally.items ≡ replicate rings no_counts) }
-{
-    let none = Counts {
-        learned: 0,
-        exported: 0,
-        offered: 0,
-        restarts: 0,
-    };
-    vec![in alloc; none; rings as usize]
-}
 
 /// Memory ran out before a line was put: the sink is flushed, and given back.
 fn starved<S: Sink>(sink: S, tally: Vec<Counts>, _formula: &Formula, _plan: &Plan) -> Solved<S>
@@ -61,82 +46,43 @@ fn starved<S: Sink>(sink: S, tally: Vec<Counts>, _formula: &Formula, _plan: &Pla
     }
 }
 
-/// Decides what the ruler left, by rings over a table of it. The journal is that of the ruler.
-fn solve_noted<S: Sink + Send, G: Gate + Sync, H: Threads + Wait + Sync>(
-    rt: &H,
-    alloc: Global,
-    formula: &Formula,
-    plan: &Plan,
-    left: Simplified,
-    book: Book<S>,
-    tally: Vec<Counts>,
-    gate: &G,
-    _journal: &Noted,
-) -> Solved<S>
-    ghost known: { S × List Entry }
-    requires threads { (1 ≤ plan.now.threads) × (plan.now.threads ≤ 16) }
-    requires conflicts { plan.now.conflicts ≤ 10 ^ 12 }
-    requires words { plan.now.words ≤ 2 ^ 31 }
-    requires slots { (1 ≤ plan.now.slots) × (plan.now.slots ≤ 16) }
-    requires few { formula.now.vars ≤ 2 ^ 30 }
-    requires on { All (All (IsOn formula.now.vars)) formula.now.clauses }
-    requires empty { IsEmptyWhereTold (S.written known.0) }
-    requires wrote { WroteSo (run_to S.written S.flushed S.target S.faults known.0 plan.now formula.now book (Ok (LeftOver left))) known.1 }
-    requires none { tally.items ≡ replicate plan.now.threads no_counts }
-    ensures solved { IsSolved plan.now formula.now result.answer result.tally.items (S.faults known.0) (S.faults result.sink) (S.flushed result.sink) (S.written result.sink) (option_map (λ v. v.items) result.lines) }
-    ensures target { S.target result.sink ≡ S.target known.0 }
-    ensures counted { length result.tally.items ≡ plan.now.threads }
-{
-    match open_table(alloc, formula, plan, &left, book) {
-        Ok((table, first, cells)) => {
-            let Simplified { stack, .. } = left;
-            let mut first = first;
-            let mut tally = tally;
-            let answer = search(
-                rt,
-                alloc,
-                &table,
-                &mut first,
-                gate,
-                cells.as_slice(),
-                plan,
-                formula,
-                &stack,
-                &mut tally,
-            );
-            close_table(table, first, answer, tally, formula, plan)
-        }
-        Err(Unopened { answer, book }) => finish(book, answer, tally, formula, plan),
-    }
-}
-
-/// Decides what the ruler left, by rings over a table of it.
+/// Decides what the ruler left, in rounds of the rings. There are no more of them than lemmas that the rings may learn, or one.
 fn solve_left<S: Sink + Send, G: Gate + Sync, H: Threads + Wait + Sync>(
     rt: &H,
     alloc: Global,
     formula: &Formula,
     plan: &Plan,
-    left: Simplified,
-    book: Book<S>,
-    tally: Vec<Counts>,
     gate: &G,
+    paused: Paused<S>,
 ) -> Solved<S>
-    ghost known: { S × RulersRun }
+    ghost known: { S }
     requires threads { (1 ≤ plan.now.threads) × (plan.now.threads ≤ 16) }
     requires conflicts { plan.now.conflicts ≤ 10 ^ 12 }
     requires words { plan.now.words ≤ 2 ^ 31 }
     requires slots { (1 ≤ plan.now.slots) × (plan.now.slots ≤ 16) }
+    requires round { IfSome plan.now.round (λ every. 1 ≤ every) }
     requires few { formula.now.vars ≤ 2 ^ 30 }
     requires on { All (All (IsOn formula.now.vars)) formula.now.clauses }
-    requires ruled { WasRuled S.written S.flushed S.target S.faults known.0 plan.now formula.now book (Ok (LeftOver left)) }
-    requires run { known.1 ≡ run_to S.written S.flushed S.target S.faults known.0 plan.now formula.now book (Ok (LeftOver left)) }
-    requires none { tally.items ≡ replicate plan.now.threads no_counts }
-    ensures solved { IsSolved plan.now formula.now result.answer result.tally.items (S.faults known.0) (S.faults result.sink) (S.flushed result.sink) (S.written result.sink) (option_map (λ v. v.items) result.lines) }
-    ensures target { S.target result.sink ≡ S.target known.0 }
+    requires empty { IsEmptyWhereTold (S.written known) }
+    requires paused { IsPaused (pause_of S.written S.flushed S.target S.faults known plan.now formula.now paused.left paused.tally.items paused.done paused.book) }
+    requires none { paused.counts.items ≡ replicate plan.now.threads no_counts }
+    ensures solved { IsSolved plan.now formula.now result.answer result.tally.items (S.faults known) (S.faults result.sink) (S.flushed result.sink) (S.written result.sink) (option_map (λ v. v.items) result.lines) }
+    ensures target { S.target result.sink ≡ S.target known }
     ensures counted { length result.tally.items ≡ plan.now.threads }
 {
-    let journal = Noted::of_run();
-    solve_noted(rt, alloc, formula, plan, left, book, tally, gate, &journal)
+    let mut paused = paused;
+    loop {
+        match run_round(rt, alloc, formula, plan, gate, paused) {
+            Ok(next) => paused = next,
+            Err(
+                Ended {
+                    answer,
+                    book,
+                    tally,
+                },
+            ) => return finish(book, answer, tally, formula, plan),
+        }
+    }
 }
 
 /// Decides a formula with a sink, the one that is given, if no ring has counted anything yet.
@@ -148,6 +94,7 @@ fn solve_counted<S: Sink + Send, G: Gate + Sync, H: Threads + Wait + Sync>(
     sink: S,
     gate: &G,
     tally: Vec<Counts>,
+    counts: Vec<Counts>,
 ) -> Solved<S>
     ghost given: { S }
     requires same { sink ≡ given }
@@ -155,10 +102,11 @@ fn solve_counted<S: Sink + Send, G: Gate + Sync, H: Threads + Wait + Sync>(
     requires conflicts { plan.now.conflicts ≤ 10 ^ 12 }
     requires words { plan.now.words ≤ 2 ^ 31 }
     requires slots { (1 ≤ plan.now.slots) × (plan.now.slots ≤ 16) }
+    requires round { IfSome plan.now.round (λ every. 1 ≤ every) }
     requires few { formula.now.vars ≤ 2 ^ 30 }
     requires on { All (All (IsOn formula.now.vars)) formula.now.clauses }
     requires empty { IsEmptyWhereTold (S.written given) }
-    requires none { tally.items ≡ replicate plan.now.threads no_counts }
+    requires none { (tally.items ≡ replicate plan.now.threads no_counts) × (counts.items ≡ replicate plan.now.threads no_counts) }
     ensures solved { IsSolved plan.now formula.now result.answer result.tally.items (S.faults given) (S.faults result.sink) (S.flushed result.sink) (S.written result.sink) (option_map (λ v. v.items) result.lines) }
     ensures target { S.target result.sink ≡ S.target given }
     ensures counted { result.answer ≢ answer.Memory → length result.tally.items ≡ plan.now.threads }
@@ -175,9 +123,16 @@ fn solve_counted<S: Sink + Send, G: Gate + Sync, H: Threads + Wait + Sync>(
     let (outcome, book) = simplify(alloc, formula, schedule, book);
     book.has_its_log();
     match outcome {
-        Ok(Outcome::Simplified(left)) => solve_left(
-            rt, alloc, formula, plan, left, book, tally, gate,
-        ),
+        Ok(Outcome::Simplified(left)) => {
+            let paused = Paused {
+                left,
+                book,
+                tally,
+                counts,
+                done: 0,
+            };
+            solve_left(rt, alloc, formula, plan, gate, paused)
+        }
         Ok(Outcome::Refuted) => finish(book, Answer::Unsat, tally, formula, plan),
         Err(stop) => finish(book, answer_of_stop(stop), tally, formula, plan),
     }
@@ -187,7 +142,8 @@ fn solve_counted<S: Sink + Send, G: Gate + Sync, H: Threads + Wait + Sync>(
 /// a thread of its own if threads can be made. All lines go to the sink, which comes back with each answer, flushed.
 ///
 /// The first ring that finds a model, refutes the formula or is stopped for want of something decides; if none does, the
-/// rings together have learned as many lemmas as the plan allows.
+/// rings together have learned as many lemmas as a round may. Then the ruler goes on, and the rings after it, until they have learned
+/// as many as the plan allows.
 pub fn solve<S: Sink + Send, G: Gate + Sync, H: Threads + Wait + Sync>(
     rt: &H,
     alloc: Global,
@@ -200,6 +156,7 @@ pub fn solve<S: Sink + Send, G: Gate + Sync, H: Threads + Wait + Sync>(
     requires conflicts { plan.now.conflicts ≤ 10 ^ 12 }
     requires words { plan.now.words ≤ 2 ^ 31 }
     requires slots { (1 ≤ plan.now.slots) × (plan.now.slots ≤ 16) }
+    requires round { IfSome plan.now.round (λ every. 1 ≤ every) }
     requires few { formula.now.vars ≤ 2 ^ 30 }
     requires on { All (All (IsOn formula.now.vars)) formula.now.clauses }
     requires empty { IsEmptyWhereTold (S.written sink) }
@@ -210,5 +167,8 @@ pub fn solve<S: Sink + Send, G: Gate + Sync, H: Threads + Wait + Sync>(
     let Ok(tally) = none_counted(alloc, plan.threads) else {
         return starved(sink, Vec::new(alloc), formula, plan);
     };
-    solve_counted(rt, alloc, formula, plan, sink, gate, tally)
+    let Ok(counts) = none_counted(alloc, plan.threads) else {
+        return starved(sink, tally, formula, plan);
+    };
+    solve_counted(rt, alloc, formula, plan, sink, gate, tally, counts)
 }

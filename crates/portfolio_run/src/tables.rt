@@ -1,28 +1,23 @@
-// The table over what the ruler left: opened for the rings, and taken apart after them.
-ghost use Rattle.std.specs.Prelude.{◌≡◌, ◌≤◌, ◌^◌, All, List, Ok, true, replicate, is_some, IfOk, IfErr};
-ghost use Rattle.std.specs.Option.{option_map};
+// The table of a round over what the ruler left, as it is opened for the rings.
+ghost use Rattle.std.specs.Prelude.{◌≡◌, ◌≤◌, ◌^◌, ℕ, All, List, IfOk, IfErr};
 ghost use Rattle.io_edge.specs.Paths.{IsEmptyWhereTold};
 ghost use Rattle.sat_words.specs.Literal.{IsOn};
 ghost use Rattle.rup_model.specs.declared.journal.Entry.{Entry};
+ghost use Rattle.core_rounds.specs.InRounds.{round_limit};
 ghost use Rattle.ring_run.specs.declared.job.Counts.{Counts as CountsData};
-ghost use Rattle.ruler_simp.specs.declared.ruling.Outcome.TheVariants.{Simplified as LeftOver};
-ghost use Rattle.portfolio_run.specs.Held.{no_counts};
-ghost use Rattle.portfolio_run.specs.Noted.{WroteSo};
-ghost use Rattle.portfolio_run.specs.Reached.{HasReached, run_to, stopped_answer, unmade_answer};
-ghost use Rattle.portfolio_run.specs.Solved.{IsSolved};
-ghost use Rattle.portfolio_run.specs.Tables.{IsOpened, HasSettled};
+ghost use Rattle.portfolio_run.specs.Pauses.{IsPausedAt};
+ghost use Rattle.portfolio_run.specs.Reached.{HasReached, pause_of, stopped_answer, unmade_answer};
+ghost use Rattle.portfolio_run.specs.Tables.{IsOpened};
 
-use crate::answer::{Answer, Solved};
-use crate::finish::finish;
+use crate::answer::Answer;
 use crate::plan::Plan;
 use clause_cell::HoleStop;
 use drat_text::LineStop;
 use io_edge::Sink;
 use log_book::Book;
-use ring_run::Counts;
 use ruler_simp::Simplified;
 use sat_words::{Cref, Formula, MAX_ENTRIES, NoRoom};
-use share_rule::{Layout, MakeStop, Pass, Shared, close, make};
+use share_rule::{Layout, MakeStop, Pass, Shared, make};
 use std::alloc::Global;
 
 /// A table with its first pass and the addresses of the start clauses.
@@ -61,16 +56,17 @@ fn answer_of_hole(why: HoleStop) -> Answer
     }
 }
 
-/// Begins the first round in the log, and opens a table for the plan's rings over what the ruler left. Refused for want of
+/// Begins a round of so many lemmas in the log, and opens a table for the plan's rings over what the ruler left. Refused for want of
 /// room or memory it gives the book back.
 pub(crate) fn open_table<S: Sink>(
     alloc: Global,
     formula: &Formula,
     plan: &Plan,
+    limit: u64,
     left: &Simplified,
     book: Book<S>,
 ) -> Result<Opened<S>, Unopened<S>>
-    ghost known: { S × List Entry }
+    ghost known: { S × List CountsData × ℕ × List Entry }
     requires threads { (1 ≤ plan.now.threads) × (plan.now.threads ≤ 16) }
     requires conflicts { plan.now.conflicts ≤ 10 ^ 12 }
     requires words { plan.now.words ≤ 2 ^ 31 }
@@ -78,12 +74,13 @@ pub(crate) fn open_table<S: Sink>(
     requires few { formula.now.vars ≤ 2 ^ 30 }
     requires on { All (All (IsOn formula.now.vars)) formula.now.clauses }
     requires empty { IsEmptyWhereTold (S.written known.0) }
-    requires wrote { WroteSo (run_to S.written S.flushed S.target S.faults known.0 plan.now formula.now book (Ok (LeftOver left.now))) known.1 }
-    ensures opened { IfOk result (λ m. IsOpened S.written S.flushed S.target S.faults known.0 plan.now formula.now left.now m.0 m.1 m.2.items) }
-    ensures unopened { IfErr result (λ e. (tally : List CountsData) → tally ≡ replicate plan.now.threads no_counts → HasReached S.written S.flushed S.target S.faults known.0 plan.now formula.now e.answer tally e.book) }
+    requires limit { limit ≡ round_limit plan.now.round plan.now.conflicts known.2 }
+    requires paused { IsPausedAt (pause_of S.written S.flushed S.target S.faults known.0 plan.now formula.now left.now known.1 known.2 book) known.3 }
+    ensures opened { IfOk result (λ m. IsOpened S.written S.flushed S.target S.faults known.0 plan.now formula.now left.now known.1 known.2 limit m.0 m.1 m.2.items) }
+    ensures unopened { IfErr result (λ e. HasReached S.written S.flushed S.target S.faults known.0 plan.now formula.now e.answer known.1 e.book) }
 {
     let mut book = book;
-    // No ring has run, so none has ended the log.
+    // No entry adds the empty clause.
     book.ended = false;
     let begun = book.open_round();
     book.has_its_log();
@@ -98,7 +95,7 @@ pub(crate) fn open_table<S: Sink>(
         vars: left.vars,
         words: plan.words,
         depth: plan.slots,
-        conflicts: plan.conflicts,
+        conflicts: limit,
     };
     match make(
         alloc,
@@ -114,26 +111,4 @@ pub(crate) fn open_table<S: Sink>(
             book,
         }),
     }
-}
-
-/// Takes the table apart after the search, and finishes the proof.
-pub(crate) fn close_table<S: Sink>(
-    table: Shared<Book<S>>,
-    first: Pass<Book<S>>,
-    answer: Answer,
-    tally: Vec<Counts>,
-    formula: &Formula,
-    plan: &Plan,
-) -> Solved<S>
-    ghost sink: { S }
-    requires threads { (1 ≤ plan.now.threads) × (plan.now.threads ≤ 16) }
-    requires few { formula.now.vars ≤ 2 ^ 30 }
-    requires on { All (All (IsOn formula.now.vars)) formula.now.clauses }
-    requires settled { HasSettled S.written S.flushed S.target S.faults sink plan.now formula.now table first tally.items answer }
-    ensures solved { IsSolved plan.now formula.now result.answer result.tally.items (S.faults sink) (S.faults result.sink) (S.flushed result.sink) (S.written result.sink) (option_map (λ v. v.items) result.lines) }
-    ensures target { S.target result.sink ≡ S.target sink }
-    ensures tally { result.tally.items ≡ tally.items }
-{
-    let book = close(table, first);
-    finish(book, answer, tally, formula, plan)
 }

@@ -1,8 +1,8 @@
 mod Going
 mod Running
 mod Turning
-mod Units
+pub mod Units
 mod Numbered
-mod Leaving
+pub mod Leaving
 pub mod Telling
 mod Resting

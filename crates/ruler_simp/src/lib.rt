@@ -1,5 +1,5 @@
 //! The ruler: it simplifies a formula before the search, and leaves what the search starts from. A second call, `again`, goes on
-//! with what is alive after the lines of a search; the program does not make it yet.
+//! with what is alive after the lines of a search, between two rounds of it.
 #![tactic(auto)]
 
 mod laws;

@@ -96,7 +96,7 @@ pub fn simplify<L: LineOut>(
 
 /// Simplifies what is left of a formula once more: `clauses`, under their numbers, are those of two literals or more and without
 /// opposites that are alive after a journal, whoever added them, and `units` all that are in the formula or were added, each
-/// once. The rounds are those of `simplify`. The program does not call it yet.
+/// once. The rounds are those of `simplify`.
 ///
 /// The lines go to the output, after those of the journal, and the entries of the stack after those that it has, so that it mends a
 /// model of what is left to one of the formula. The output comes back with each answer. After a fault it takes no more lines; after

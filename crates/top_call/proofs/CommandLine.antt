@@ -23,7 +23,7 @@ use Rattle.clap.specs.declared.error.kind.ErrorKind.{ErrorKind}
 use Rattle.clap.proofs.CallerLemmas.{default_present, entry_by_id, same_rules_by_id}
 use Rattle.clap.proofs.SimpleLemmas.{is_false, is_nil, plain_fields}
 use Rattle.clap.proofs.WalkLemmas.{both}
-use Rattle.top_call.specs.Words.{Command, HasNumber, HasThreads, HasLimit, HasWords, HasSlots, HasSeed, HasWalk, HasMade, command_in, command_of, unless_both, unless_refused, solver_app, solver_rules, conflicts_rule, threads_rule, words_rule, slots_rule, seed_rule, walk_rule, make_rule}
+use Rattle.top_call.specs.Words.{Command, HasNumber, HasThreads, HasLimit, HasRound, HasWords, HasSlots, HasSeed, HasWalk, HasMade, command_in, command_of, unless_both, unless_refused, solver_app, solver_rules, conflicts_rule, round_rule, threads_rule, words_rule, slots_rule, seed_rule, walk_rule, make_rule}
 
 pub solver_simple : is_simple solver_app ≡ true
 solver_simple = refl
@@ -96,7 +96,7 @@ alone_at id (x ∷ rules) (suc place) e (suc k) r lt h = ap suc (alone_at id rul
 
 -- how many rules there are
 abbrev rules_count : ℕ
-rules_count = 13
+rules_count = 14
 
 all_simple : (k : ℕ) (r : Rule) → k < rules_count → ((slice_index_or solver_rules k r).is_simple ≡ true) × ((slice_index_or solver_rules k r).is_free ≡ true)
 all_simple k r lt = (each_passes (λ x. x.is_simple) solver_rules refl k r lt, each_passes (λ x. x.is_free) solver_rules refl k r lt)
@@ -112,6 +112,10 @@ long_id id other is apart = apart (ap length is)
 limit_alone : (codes "conflicts" ≡ codes "help") ⊎ (codes "conflicts" ≡ codes "version") → ⊥
 limit_alone (inl h) = long_id (codes "conflicts") (codes "help") h (λ e. absurd (omega (arith, e)))
 limit_alone (inr h) = long_id (codes "conflicts") (codes "version") h (λ e. absurd (omega (arith, e)))
+
+round_alone : (codes "round" ≡ codes "help") ⊎ (codes "round" ≡ codes "version") → ⊥
+round_alone (inl h) = long_id (codes "round") (codes "help") h (λ e. absurd (omega (arith, e)))
+round_alone (inr h) = long_id (codes "round") (codes "version") h (λ e. absurd (omega (arith, e)))
 
 threads_alone : (codes "threads" ≡ codes "help") ⊎ (codes "threads" ≡ codes "version") → ⊥
 threads_alone (inl h) = long_id (codes "threads") (codes "help") h (λ e. absurd (omega (arith, e)))
@@ -225,23 +229,26 @@ record IsOption (place low high : ℕ) (id : List ℕ) (rule : Rule) : Type 0 wh
 limit_option : IsOption 0 1 (10 ^ 12) (codes "conflicts") conflicts_rule
 limit_option = record { within = omega arith; at = λ d. refl; alone = alone_at (codes "conflicts") solver_rules 0 refl; named = λ e. cc e; other = limit_alone; id_is = refl; simple = refl; sets = refl; parser = refl; one = refl }
 
-threads_option : IsOption 1 1 16 (codes "threads") threads_rule
-threads_option = record { within = omega arith; at = λ d. refl; alone = alone_at (codes "threads") solver_rules 1 refl; named = λ e. cc e; other = threads_alone; id_is = refl; simple = refl; sets = refl; parser = refl; one = refl }
+round_option : IsOption 1 1 (10 ^ 12) (codes "round") round_rule
+round_option = record { within = omega arith; at = λ d. refl; alone = alone_at (codes "round") solver_rules 1 refl; named = λ e. cc e; other = round_alone; id_is = refl; simple = refl; sets = refl; parser = refl; one = refl }
 
-words_option : IsOption 2 64 (2 ^ 31) (codes "words") words_rule
-words_option = record { within = omega arith; at = λ d. refl; alone = alone_at (codes "words") solver_rules 2 refl; named = λ e. cc e; other = words_alone; id_is = refl; simple = refl; sets = refl; parser = refl; one = refl }
+threads_option : IsOption 2 1 16 (codes "threads") threads_rule
+threads_option = record { within = omega arith; at = λ d. refl; alone = alone_at (codes "threads") solver_rules 2 refl; named = λ e. cc e; other = threads_alone; id_is = refl; simple = refl; sets = refl; parser = refl; one = refl }
 
-slots_option : IsOption 3 1 16 (codes "slots") slots_rule
-slots_option = record { within = omega arith; at = λ d. refl; alone = alone_at (codes "slots") solver_rules 3 refl; named = λ e. cc e; other = slots_alone; id_is = refl; simple = refl; sets = refl; parser = refl; one = refl }
+words_option : IsOption 3 64 (2 ^ 31) (codes "words") words_rule
+words_option = record { within = omega arith; at = λ d. refl; alone = alone_at (codes "words") solver_rules 3 refl; named = λ e. cc e; other = words_alone; id_is = refl; simple = refl; sets = refl; parser = refl; one = refl }
 
-seed_option : IsOption 4 0 (2 ^ 63 - 1) (codes "seed") seed_rule
-seed_option = record { within = omega arith; at = λ d. refl; alone = alone_at (codes "seed") solver_rules 4 refl; named = λ e. cc e; other = seed_alone; id_is = refl; simple = refl; sets = refl; parser = refl; one = refl }
+slots_option : IsOption 4 1 16 (codes "slots") slots_rule
+slots_option = record { within = omega arith; at = λ d. refl; alone = alone_at (codes "slots") solver_rules 4 refl; named = λ e. cc e; other = slots_alone; id_is = refl; simple = refl; sets = refl; parser = refl; one = refl }
 
-walk_option : IsOption 5 0 (10 ^ 9) (codes "walk") walk_rule
-walk_option = record { within = omega arith; at = λ d. refl; alone = alone_at (codes "walk") solver_rules 5 refl; named = λ e. cc e; other = walk_alone; id_is = refl; simple = refl; sets = refl; parser = refl; one = refl }
+seed_option : IsOption 5 0 (2 ^ 63 - 1) (codes "seed") seed_rule
+seed_option = record { within = omega arith; at = λ d. refl; alone = alone_at (codes "seed") solver_rules 5 refl; named = λ e. cc e; other = seed_alone; id_is = refl; simple = refl; sets = refl; parser = refl; one = refl }
 
-make_option : IsOption 11 0 (2 ^ 63 - 1) (codes "make") make_rule
-make_option = record { within = omega arith; at = λ d. refl; alone = alone_at (codes "make") solver_rules 11 refl; named = λ e. cc e; other = make_alone; id_is = refl; simple = refl; sets = refl; parser = refl; one = refl }
+walk_option : IsOption 6 0 (10 ^ 9) (codes "walk") walk_rule
+walk_option = record { within = omega arith; at = λ d. refl; alone = alone_at (codes "walk") solver_rules 6 refl; named = λ e. cc e; other = walk_alone; id_is = refl; simple = refl; sets = refl; parser = refl; one = refl }
+
+make_option : IsOption 12 0 (2 ^ 63 - 1) (codes "make") make_rule
+make_option = record { within = omega arith; at = λ d. refl; alone = alone_at (codes "make") solver_rules 12 refl; named = λ e. cc e; other = make_alone; id_is = refl; simple = refl; sets = refl; parser = refl; one = refl }
 
 module _ (c : ClapCommand) (m : ArgMatches) (app : app_of c ≡ solver_app) (p : IsParsedFrom c m) where
   rules_are : map rule_of (args_of c) ≡ solver_rules
@@ -340,26 +347,30 @@ module _ (c : ClapCommand) (m : ArgMatches) (app : app_of c ≡ solver_app) (p :
   pub limit_of : HasLimit m
   limit_of = number_by_default 0 1 (10 ^ 12) (codes "conflicts") conflicts_rule limit_option refl
 
+  -- they have one for `--round`, or none
+  pub round_of : HasRound m
+  round_of = number_or_none 1 1 (10 ^ 12) (codes "round") round_rule round_option
+
   -- they have one for `--threads`
   pub threads_of : HasThreads m
-  threads_of = number_by_default 1 1 16 (codes "threads") threads_rule threads_option refl
+  threads_of = number_by_default 2 1 16 (codes "threads") threads_rule threads_option refl
 
   -- they have one for `--words`
   pub words_of : HasWords m
-  words_of = number_by_default 2 64 (2 ^ 31) (codes "words") words_rule words_option refl
+  words_of = number_by_default 3 64 (2 ^ 31) (codes "words") words_rule words_option refl
 
   -- they have one for `--slots`
   pub slots_of : HasSlots m
-  slots_of = number_by_default 3 1 16 (codes "slots") slots_rule slots_option refl
+  slots_of = number_by_default 4 1 16 (codes "slots") slots_rule slots_option refl
 
   -- they have one for `--seed`
   pub seed_of : HasSeed m
-  seed_of = number_by_default 4 0 (2 ^ 63 - 1) (codes "seed") seed_rule seed_option refl
+  seed_of = number_by_default 5 0 (2 ^ 63 - 1) (codes "seed") seed_rule seed_option refl
 
   -- they have one for `--walk`
   pub walk_of : HasWalk m
-  walk_of = number_by_default 5 0 (10 ^ 9) (codes "walk") walk_rule walk_option refl
+  walk_of = number_by_default 6 0 (10 ^ 9) (codes "walk") walk_rule walk_option refl
 
   -- they have one for `--make`, or none
   pub made_of : HasMade m
-  made_of = number_or_none 11 0 (2 ^ 63 - 1) (codes "make") make_rule make_option
+  made_of = number_or_none 12 0 (2 ^ 63 - 1) (codes "make") make_rule make_option

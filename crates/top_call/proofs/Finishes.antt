@@ -20,6 +20,7 @@ use Rattle.portfolio_run.specs.declared.answer.Answer.TheVariants as answer
 use Rattle.portfolio_run.specs.declared.plan.Plan.{Plan as SearchPlan}
 use Rattle.portfolio_run.specs.Held.{IsHeld}
 use Rattle.portfolio_run.specs.Ruled.{schedule_of, IsRuledThrough}
+use Rattle.portfolio_run.specs.Rulings.{vars_after}
 use Rattle.portfolio_run.specs.Solved.{Holds, FaultsFit, IsTold, IsFinished, IsSolved, is_verdict, kind_of, unfinished}
 use Rattle.top_call.specs.declared.plan.CallPlan.{CallPlan}
 use Rattle.top_call.specs.declared.report.Tally.{Tally}
@@ -44,7 +45,7 @@ use Rattle.top_call.specs.Outcome.{RunOutcome, IsRun, IsUnread, IsStarted, IsVer
 use Rattle.top_call.proofs.Journals.{empty_log}
 use Rattle.top_call.proofs.Checks.{kept_accepted}
 use Rattle.top_call.proofs.Models.{cleared, has_both, both}
-use Rattle.top_call.proofs.Tallies.{each_counted, long_each, sizes, held_each, stop_each, holds_each, are_learned, counted_is}
+use Rattle.top_call.proofs.Tallies.{each_counted, long_each, sizes, held_each, stop_each, ruled_each, holds_each, are_learned, counted_is}
 
 -- a formula for a run that reads none
 abbrev pub no_formula : FormulaData
@@ -61,7 +62,7 @@ unread plan text source out f0 f1 w0 w1 fl0 fl1 result quiet empty same cause fl
 -- ---- the answer of the rings
 
 -- an answer that is a verdict holds, in a run in which the simplifiers came to their end
-found_verdict : (plan : SearchPlan) (vars : ℕ) (F : FormulaData) (J : List Entry) (counts : List Counts) (held : IsHeld plan.threads plan.slots None plan.conflicts F.clauses J counts) (found : Answer) (occurring : List Bool) → IsOccurring F.clauses F.vars occurring → is_verdict found ≡ true → Holds plan vars F J held found → IsRuledThrough F (schedule_of plan) J
+found_verdict : (plan : SearchPlan) (vars : ℕ) (F : FormulaData) (J : List Entry) (counts : List Counts) (held : IsHeld plan.threads plan.slots plan.round plan.conflicts F.clauses J counts) (found : Answer) (occurring : List Bool) → IsOccurring F.clauses F.vars occurring → is_verdict found ≡ true → Holds plan vars F J held found → IsRuledThrough F (schedule_of plan) J
     → IsVerdictKind (kind_of found) plan F J
 found_verdict plan vars F J counts held (Sat model) occurring occurs is holds ruled =
     record { decided = record { verdict = Satisfiable (both occurring model); decides = record { holds = cleared F occurring model (both occurring model) holds occurs (has_both occurring model); ruled = ruled } }; kind_is = refl }
@@ -87,7 +88,7 @@ told_found found a before faults t other = elim t.ends [
     by answer.Memory e = e
 
 -- a verdict that an answer comes to holds, and is of its kind
-decided : (plan : SearchPlan) (vars : ℕ) (F : FormulaData) (J : List Entry) (counts : List Counts) (held : IsHeld plan.threads plan.slots None plan.conflicts F.clauses J counts) (a : Answer) (occurring : List Bool) (result : Result SearchVerdict CallEnd) (verdict : SearchVerdict)
+decided : (plan : SearchPlan) (vars : ℕ) (F : FormulaData) (J : List Entry) (counts : List Counts) (held : IsHeld plan.threads plan.slots plan.round plan.conflicts F.clauses J counts) (a : Answer) (occurring : List Bool) (result : Result SearchVerdict CallEnd) (verdict : SearchVerdict)
     → IsOccurring F.clauses F.vars occurring → IsVerdictOf occurring a result → result ≡ Ok verdict → Holds plan vars F J held a → (is_verdict a ≡ true → IsRuledThrough F (schedule_of plan) J)
     → (kind_of a ≡ verdict_kind verdict) × Decides plan F J verdict
 decided plan vars F J counts held (Sat model) occurring result verdict occurs is ok holds ruled =
@@ -132,13 +133,14 @@ log_of format F J a searched faults flushed written f = record {
 started : (plan : CallPlan) (text : Option (List ℕ)) (source : FaultCount) (out : Output) (F : FormulaData) (a : Answer) (counts : List Counts) (tally : Tally) (faults : ℕ) (flushed written : Option (List ℕ)) (kept : Option (List Line))
     → (s : IsSolved plan.search F a counts 0 faults flushed written kept) → WasGiven plan.make text F → IsStill source
     → tally ≡ rings_tally (each_counted plan.search.threads counts) no_lack
-    → (started : IsStarted (kind_of s.found) no_lack F s.journal tally (record { plan = plan; text = text; source = source; proof = Some (record { faults = faults; written = written; flushed = flushed }); out = out })) × Holds plan.search started.ruled.work.vars F s.journal started.held s.found
+    → (started : IsStarted (kind_of s.found) no_lack F s.journal tally (record { plan = plan; text = text; source = source; proof = Some (record { faults = faults; written = written; flushed = flushed }); out = out })) × Holds plan.search (vars_after started.ruled.work.vars started.rulings) F s.journal started.held s.found
 started plan text source out F a counts tally faults flushed written kept s given still is =
     let rings : ℕ = plan.search.threads in
     let slots : ℕ = plan.search.slots in
+    let every : Option ℕ = plan.search.round in
     let limit : ℕ = plan.search.conflicts in
-    let held = held_each rings slots limit F.clauses s.journal counts s.reached.held in
-    let long = long_each rings counts (sizes rings slots limit F.clauses s.journal counts s.reached.held) in (
+    let held = held_each rings slots every limit F.clauses s.journal counts s.reached.held in
+    let long = long_each rings counts (sizes rings slots every limit F.clauses s.journal counts s.reached.held) in (
       record {
         given = given;
         source = still;
@@ -146,14 +148,16 @@ started plan text source out F a counts tally faults flushed written kept s give
         ruled = s.reached.ruled;
         counts = each_counted rings counts;
         held = held;
-        stop = stop_each rings slots limit F.clauses s.journal counts s.reached.held (kind_of s.found) s.reached.stop;
+        rulings = s.reached.rulings;
+        again = ruled_each (schedule_of plan.search) s.reached.ruled.work.vars rings slots every limit F.clauses s.journal counts s.reached.held s.reached.rulings s.reached.again;
+        stop = stop_each rings slots every limit F.clauses s.journal counts s.reached.held (kind_of s.found) s.reached.stop;
         searched = s.searched;
         faults_fit = s.reached.faults_fit;
         log = log_of plan.search.format F s.journal a s.searched faults flushed written s.finished;
         tally_is = is;
-        learned = subst (λ (t : Tally). AreLearned rings limit s.journal t.learned) (sym is) (are_learned rings slots limit F.clauses s.journal (each_counted rings counts) held long);
+        learned = subst (λ (t : Tally). AreLearned rings limit s.journal t.learned) (sym is) (are_learned rings slots every limit F.clauses s.journal (each_counted rings counts) held long);
       },
-      holds_each plan.search s.reached.ruled.work.vars F s.journal counts s.reached.held s.found s.reached.holds,
+      holds_each plan.search (vars_after s.reached.ruled.work.vars s.reached.rulings) F s.journal counts s.reached.held s.found s.reached.holds,
     )
 
 -- with what there was no room for
@@ -165,6 +169,8 @@ with_lack kind lack F J tally run s = record {
   ruled = s.ruled;
   counts = s.counts;
   held = s.held;
+  rulings = s.rulings;
+  again = s.again;
   stop = s.stop;
   searched = s.searched;
   faults_fit = s.faults_fit;
@@ -174,7 +180,7 @@ with_lack kind lack F J tally run s = record {
 }
 
 -- a fault of the proof is that of the search, or comes after a verdict
-fault_found : (plan : SearchPlan) (vars : ℕ) (F : FormulaData) (J : List Entry) (counts : List Counts) (held : IsHeld plan.threads plan.slots None plan.conflicts F.clauses J counts) (found : Answer) (occurring : List Bool) (faults : ℕ) → IsOccurring F.clauses F.vars occurring → IsTold found answer.ProofFault 0 faults → Holds plan vars F J held found
+fault_found : (plan : SearchPlan) (vars : ℕ) (F : FormulaData) (J : List Entry) (counts : List Counts) (held : IsHeld plan.threads plan.slots plan.round plan.conflicts F.clauses J counts) (found : Answer) (occurring : List Bool) (faults : ℕ) → IsOccurring F.clauses F.vars occurring → IsTold found answer.ProofFault 0 faults → Holds plan vars F J held found
     → (is_verdict found ≡ true → IsRuledThrough F (schedule_of plan) J) → (kind_of found ≡ Some STOP_PROOF) ⊎ IsVerdictKind (kind_of found) plan F J
 fault_found plan vars F J counts held (Sat model) occurring faults occurs t holds ruled = inr (found_verdict plan vars F J counts held (Sat model) occurring occurs refl holds (ruled refl))
 fault_found plan vars F J counts held Unsat occurring faults occurs t holds ruled = inr (found_verdict plan vars F J counts held Unsat occurring occurs refl holds (ruled refl))
@@ -200,7 +206,7 @@ fault_rose plan F J found searched faults t fit later = elim t.ends [
 stopped : (end : CallEnd) (plan : CallPlan) (text : Option (List ℕ)) (source : FaultCount) (out : Output) (F : FormulaData) (a : Answer) (counts : List Counts) (faults : ℕ) (flushed written : Option (List ℕ)) (kept : Option (List Line))
     (occurring : List Bool) (result : Result SearchVerdict CallEnd) (before tally : Tally) → IsOccurring F.clauses F.vars occurring
     → IsVerdictOf occurring a result → result ≡ Err end → (s : IsSolved plan.search F a counts 0 faults flushed written kept) → tally ≡ noted end before → IsStill out.faults
-    → (started : IsStarted (kind_of s.found) no_lack F s.journal before (record { plan = plan; text = text; source = source; proof = Some (record { faults = faults; written = written; flushed = flushed }); out = out })) × Holds plan.search started.ruled.work.vars F s.journal started.held s.found
+    → (started : IsStarted (kind_of s.found) no_lack F s.journal before (record { plan = plan; text = text; source = source; proof = Some (record { faults = faults; written = written; flushed = flushed }); out = out })) × Holds plan.search (vars_after started.ruled.work.vars started.rulings) F s.journal started.held s.found
     → RunOutcome end F s.journal tally (record { plan = plan; text = text; source = source; proof = Some (record { faults = faults; written = written; flushed = flushed }); out = out })
 stopped end plan text source out F a counts faults flushed written kept occurring result before tally occurs is err s noted_is still began = by a is s.told
   where
@@ -212,7 +218,7 @@ stopped end plan text source out F a counts faults flushed written kept occurrin
 
     -- the rings were to start, and this answer holds
     Began : Answer → Type 0
-    Began b = (started : IsStarted (kind_of b) no_lack F s.journal before run) × Holds plan.search started.ruled.work.vars F s.journal started.held b
+    Began b = (started : IsStarted (kind_of b) no_lack F s.journal before run) × Holds plan.search (vars_after started.ruled.work.vars started.rulings) F s.journal started.held b
 
     at_kind : (b : Answer) → b ≡ s.found → Began b
     at_kind b same = subst Began (sym same) began
@@ -230,7 +236,7 @@ stopped end plan text source out F a counts faults flushed written kept occurrin
     by answer.ProofFault i t = as_end ProofFault (let e : ProofFault ≡ end = cc in e) (record {
       kind = kind_of s.found;
       started = began.0;
-      failed = fault_found plan.search s.reached.ruled.work.vars F s.journal counts s.reached.held s.found occurring faults occurs t s.reached.holds s.reached.through;
+      failed = fault_found plan.search (vars_after s.reached.ruled.work.vars s.reached.rulings) F s.journal counts s.reached.held s.found occurring faults occurs t s.reached.holds s.reached.through;
       rose = fault_rose plan.search F s.journal s.found s.searched faults t s.reached.faults_fit later;
     })
     by answer.Memory i t =
@@ -267,7 +273,7 @@ finished verdict told plan F J tally text source out writer none decided (inr (i
 -- the tally after an answer
 told : (plan : SearchPlan) (F : FormulaData) (a : Answer) (counts : List Counts) (faults : ℕ) (flushed written : Option (List ℕ)) (kept : Option (List Line)) (before after : Tally)
     → IsSolved plan F a counts 0 faults flushed written kept → before ≡ zero_tally plan.threads → after ≡ counted counts before → after ≡ rings_tally (each_counted plan.threads counts) no_lack
-told plan F a counts faults flushed written kept before after s zeros is = is ∙ ap (counted counts) zeros ∙ counted_is plan.threads counts (sizes plan.threads plan.slots plan.conflicts F.clauses s.journal counts s.reached.held)
+told plan F a counts faults flushed written kept before after s zeros is = is ∙ ap (counted counts) zeros ∙ counted_is plan.threads counts (sizes plan.threads plan.slots plan.round plan.conflicts F.clauses s.journal counts s.reached.held)
 
 -- a verdict was reached
 pub verdict_run : (plan : CallPlan) (text : Option (List ℕ)) (source : FaultCount) (out : Output) (F : FormulaData) (a : Answer) (counts : List Counts) (f0 faults : ℕ) (flushed written : Option (List ℕ)) (kept : Option (List Line)) (before tally : Tally) (occurring : List Bool) (result : Result SearchVerdict CallEnd) (verdict : SearchVerdict) (end : CallEnd)
@@ -281,7 +287,7 @@ verdict_run plan text source out F a counts f0 faults flushed written kept befor
     let s : IsSolved plan.search F a counts 0 faults flushed written kept = subst (λ (n : ℕ). IsSolved plan.search F a counts n faults flushed written kept) none solved in
     let v : is_verdict a ≡ true = verdict_is a occurring result verdict of_answer ok in
     let same : a ≡ s.found = told_found s.found a 0 faults s.told (sound_verdict a v) in
-    let vars : ℕ = s.reached.ruled.work.vars in
+    let vars : ℕ = vars_after s.reached.ruled.work.vars s.reached.rulings in
     let holds : Holds plan.search vars F s.journal s.reached.held a = subst (Holds plan.search vars F s.journal s.reached.held) (sym same) s.reached.holds in
     let h = decided plan.search vars F s.journal counts s.reached.held a occurring result verdict occurs of_answer ok holds (λ e. s.reached.through (sym (ap is_verdict same) ∙ e)) in
     let began = started plan text source out F a counts tally faults flushed written kept s given still (told plan.search F a counts faults flushed written kept before tally s zeros is) in

@@ -94,7 +94,7 @@ module _ (F : FormulaData) (J : List Entry) (tally : Tally) (call : Call) where
   unknown Unknown o e = record {
     answers = answers verdict.Unknown o.files o.input o.outcome;
     many = o.outcome.started.learned.many;
-    learned = all_learned (search_in call).threads (search_in call).conflicts F.clauses J tally.learned o.outcome.started.learned o.outcome.decided.holds;
+    learned = all_learned (search_in call).threads (search_in call).round (search_in call).conflicts F.clauses J tally.learned o.outcome.started.learned o.outcome.decided.holds;
   }
   unknown _ o e = absurd (omega arith)
 

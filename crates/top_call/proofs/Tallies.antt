@@ -20,12 +20,14 @@ use Rattle.core_rounds.specs.Rounds.{RoundRun, written_in, start_for, AreRounds}
 use Rattle.core_rounds.specs.InRounds.{learned_by}
 use Rattle.core_rounds.proofs.Learned.{rulers_learned}
 use Rattle.core_rounds.proofs.OneRound.{grows}
+use Rattle.ruler_simp.specs.declared.rounds.Schedule.{Schedule}
 use Rattle.ring_run.specs.declared.job.Counts.{Counts}
 use Rattle.portfolio_run.specs.declared.answer.Answer.{Answer}
 use Rattle.portfolio_run.specs.declared.answer.Answer.TheVariants.{Sat, Unsat, Unknown, NoHole, ProofFault, Memory}
 use Rattle.portfolio_run.specs.declared.plan.Plan.{Plan as SearchPlan}
 use Rattle.portfolio_run.specs.Held.{RestsBetween, IsHeld, HasStop, NeverGone, AreTallied, add_tallies, total, no_counts}
 use Rattle.portfolio_run.specs.Room.{HasNoRoom}
+use Rattle.portfolio_run.specs.Rulings.{Ruling, HasRuledBetween}
 use Rattle.portfolio_run.specs.Solved.{IsUnsettled, Holds}
 use Rattle.portfolio_run.specs.Spent.{LearnedAll}
 use Rattle.top_call.specs.declared.report.Tally.{Tally}
@@ -62,19 +64,19 @@ none_tallied rings [] (c ∷ cs) h none = absurd h
 none_tallied rings (x ∷ xs) cs h none = absurd (let no : ⊥ = cc in no)
 
 -- the rings counted nothing, or each did
-pub sizes : (rings slots limit : ℕ) (F : List (List Literal)) (J : List Entry) (counts : List Counts) → IsHeld rings slots None limit F J counts → (counts ≡ []) ⊎ (length counts ≡ rings)
-sizes rings slots limit F J counts (inl h) = elim h.tally_is [
+pub sizes : (rings slots : ℕ) (every : Option ℕ) (limit : ℕ) (F : List (List Literal)) (J : List Entry) (counts : List Counts) → IsHeld rings slots every limit F J counts → (counts ≡ []) ⊎ (length counts ≡ rings)
+sizes rings slots every limit F J counts (inl h) = elim h.tally_is [
   | inl e ↦ inr (ap length e ∙ total_many rings h.runs h.counts h.tallied)
   | inr e ↦ inl e.1
 ]
-sizes rings slots limit F J counts (inr h) = inr (ap length h.tally_is ∙ total_many rings (h.last ∷ h.before) h.counts h.tallied)
+sizes rings slots every limit F J counts (inr h) = inr (ap length h.tally_is ∙ total_many rings (h.last ∷ h.before) h.counts h.tallied)
 
 pub long_each : (rings : ℕ) (counts : List Counts) → (counts ≡ []) ⊎ (length counts ≡ rings) → length (each_counted rings counts) ≡ rings
 long_each rings counts (inl e) = ap (λ (cs : List Counts). length (each_counted rings cs)) e ∙ length-replicate rings no_counts
 long_each rings counts (inr e) = ap length (full_each rings counts e) ∙ e
 
-pub held_each : (rings slots limit : ℕ) (F : List (List Literal)) (J : List Entry) (counts : List Counts) → IsHeld rings slots None limit F J counts → IsHeld rings slots None limit F J (each_counted rings counts)
-held_each rings slots limit F J counts (inl h) = inl (record {
+pub held_each : (rings slots : ℕ) (every : Option ℕ) (limit : ℕ) (F : List (List Literal)) (J : List Entry) (counts : List Counts) → IsHeld rings slots every limit F J counts → IsHeld rings slots every limit F J (each_counted rings counts)
+held_each rings slots every limit F J counts (inl h) = inl (record {
   runs = h.runs;
   left = h.left;
   rounds = h.rounds;
@@ -91,7 +93,7 @@ held_each rings slots limit F J counts (inl h) = inl (record {
     | inr e ↦ ap (each_counted rings) e.1 ∙ sym (ap (total rings) (none_tallied rings h.runs h.counts h.tallied e.0))
   ]);
 })
-held_each rings slots limit F J counts (inr h) = inr (record {
+held_each rings slots every limit F J counts (inr h) = inr (record {
   last = h.last;
   before = h.before;
   rounds = h.rounds;
@@ -102,37 +104,44 @@ held_each rings slots limit F J counts (inr h) = inr (record {
 })
 
 -- with the same stop
-pub stop_each : (rings slots limit : ℕ) (F : List (List Literal)) (J : List Entry) (counts : List Counts) (held : IsHeld rings slots None limit F J counts) (kind : Option ℕ) → HasStop held kind → HasStop (held_each rings slots limit F J counts held) kind
+pub stop_each : (rings slots : ℕ) (every : Option ℕ) (limit : ℕ) (F : List (List Literal)) (J : List Entry) (counts : List Counts) (held : IsHeld rings slots every limit F J counts) (kind : Option ℕ) → HasStop held kind → HasStop (held_each rings slots every limit F J counts held) kind
 unfolding held_each
-stop_each rings slots limit F J counts (inl h) kind stop = stop
-stop_each rings slots limit F J counts (inr h) kind stop = stop
+stop_each rings slots every limit F J counts (inl h) kind stop = stop
+stop_each rings slots every limit F J counts (inr h) kind stop = stop
+
+-- and the same of the ruler
+pub ruled_each : (schedule : Schedule) (first rings slots : ℕ) (every : Option ℕ) (limit : ℕ) (F : List (List Literal)) (J : List Entry) (counts : List Counts) (held : IsHeld rings slots every limit F J counts) (rulings : List Ruling)
+    → HasRuledBetween schedule first held rulings → HasRuledBetween schedule first (held_each rings slots every limit F J counts held) rulings
+unfolding held_each
+ruled_each schedule first rings slots every limit F J counts (inl h) rulings again = again
+ruled_each schedule first rings slots every limit F J counts (inr h) rulings again = again
 
 -- and as much left to settle
-unsettled_each : (rings slots limit : ℕ) (F : List (List Literal)) (J : List Entry) (counts : List Counts) (held : IsHeld rings slots None limit F J counts) → IsUnsettled held → IsUnsettled (held_each rings slots limit F J counts held)
+unsettled_each : (rings slots : ℕ) (every : Option ℕ) (limit : ℕ) (F : List (List Literal)) (J : List Entry) (counts : List Counts) (held : IsHeld rings slots every limit F J counts) → IsUnsettled held → IsUnsettled (held_each rings slots every limit F J counts held)
 unfolding held_each
-unsettled_each rings slots limit F J counts held u = record { ring = u.ring; below = u.below; tickets = by held u.tickets; going = u.going; rulers = u.rulers }
+unsettled_each rings slots every limit F J counts held u = record { ring = u.ring; below = u.below; tickets = by held u.tickets; going = u.going; rulers = u.rulers }
   where
-    by : (h : IsHeld rings slots None limit F J counts) → NeverGone h u.ring → NeverGone (held_each rings slots limit F J counts h) u.ring
+    by : (h : IsHeld rings slots every limit F J counts) → NeverGone h u.ring → NeverGone (held_each rings slots every limit F J counts h) u.ring
     by (inl h) never = never
     by (inr h) never = never
 
 -- and as little room
-room_each : (plan : SearchPlan) (vars : ℕ) (F : List (List Literal)) (J : List Entry) (counts : List Counts) (held : IsHeld plan.threads plan.slots None plan.conflicts F J counts) (lack : NoRoom) → HasNoRoom plan vars held lack
-    → HasNoRoom plan vars (held_each plan.threads plan.slots plan.conflicts F J counts held) lack
+room_each : (plan : SearchPlan) (vars : ℕ) (F : List (List Literal)) (J : List Entry) (counts : List Counts) (held : IsHeld plan.threads plan.slots plan.round plan.conflicts F J counts) (lack : NoRoom) → HasNoRoom plan vars held lack
+    → HasNoRoom plan vars (held_each plan.threads plan.slots plan.round plan.conflicts F J counts held) lack
 unfolding held_each
 room_each plan vars F J counts (inl h) lack (inl u) = inl (record { start = u.start; begun = u.begun; none = u.none })
 room_each plan vars F J counts (inl h) lack (inr full) = inr full
 room_each plan vars F J counts (inr h) lack tight = tight
 
 -- the same answer holds
-pub holds_each : (plan : SearchPlan) (vars : ℕ) (F : FormulaData) (J : List Entry) (counts : List Counts) (held : IsHeld plan.threads plan.slots None plan.conflicts F.clauses J counts) (a : Answer)
-    → Holds plan vars F J held a → Holds plan vars F J (held_each plan.threads plan.slots plan.conflicts F.clauses J counts held) a
+pub holds_each : (plan : SearchPlan) (vars : ℕ) (F : FormulaData) (J : List Entry) (counts : List Counts) (held : IsHeld plan.threads plan.slots plan.round plan.conflicts F.clauses J counts) (a : Answer)
+    → Holds plan vars F J held a → Holds plan vars F J (held_each plan.threads plan.slots plan.round plan.conflicts F.clauses J counts held) a
 holds_each plan vars F J counts held (Sat model) h = h
 holds_each plan vars F J counts held Unsat h = h
 holds_each plan vars F J counts held Unknown h = h
-holds_each plan vars F J counts held (NoHole lack) h = (room_each plan vars F.clauses J counts held lack h.0, unsettled_each plan.threads plan.slots plan.conflicts F.clauses J counts held h.1)
+holds_each plan vars F J counts held (NoHole lack) h = (room_each plan vars F.clauses J counts held lack h.0, unsettled_each plan.threads plan.slots plan.round plan.conflicts F.clauses J counts held h.1)
 holds_each plan vars F J counts held ProofFault h = tt
-holds_each plan vars F J counts held Memory h = unsettled_each plan.threads plan.slots plan.conflicts F.clauses J counts held h
+holds_each plan vars F J counts held Memory h = unsettled_each plan.threads plan.slots plan.round plan.conflicts F.clauses J counts held h
 
 -- ---- the lists of the tally
 
@@ -227,17 +236,17 @@ rests_learn ring J rest (Some x) rulers =
     ∙ learned-append ring J rest ∙ ap (λ (cs : List (List Literal)). learned ring J ++ cs) (rulers_learned ring rest rulers) ∙ append-nil (learned ring J)
 
 -- so it learned as many as it counted
-total_learned : (rings slots limit : ℕ) (F : List (List Literal)) (xs : List RoundRun) (cs : List (List Counts)) (J : List Entry) → AreRounds rings slots None limit F xs J → AreTallied rings xs cs
+total_learned : (rings slots : ℕ) (every : Option ℕ) (limit : ℕ) (F : List (List Literal)) (xs : List RoundRun) (cs : List (List Counts)) (J : List Entry) → AreRounds rings slots every limit F xs J → AreTallied rings xs cs
     → (ring : ℕ) → ring < rings → (slice_index_or (total rings cs) ring no_counts).learned ≡ length (learned ring J)
-total_learned rings slots limit F [] [] J r h ring lt =
+total_learned rings slots every limit F [] [] J r h ring lt =
     ap (λ (c : Counts). c.learned) (get_or-replicate rings ring no_counts no_counts lt) ∙ sym (ap (λ (I : List Entry). length (learned ring I)) r)
-total_learned rings slots limit F [] (c ∷ cs) J r h ring lt = absurd h
-total_learned rings slots limit F (x ∷ xs) [] J r h ring lt = absurd h
-total_learned rings slots limit F (x ∷ xs) (c ∷ cs) J r h ring lt =
+total_learned rings slots every limit F [] (c ∷ cs) J r h ring lt = absurd h
+total_learned rings slots every limit F (x ∷ xs) [] J r h ring lt = absurd h
+total_learned rings slots every limit F (x ∷ xs) (c ∷ cs) J r h ring lt =
     let before : List Entry = r.0 in
     let rest : List Entry = r.1 in
     let start : RoundStart = start_for x.opening in
-    let old = total_learned rings slots limit F xs cs before r.2 h.1 ring lt in
+    let old = total_learned rings slots every limit F xs cs before r.2 h.1 ring lt in
     let here : (slice_index_or c ring no_counts).learned ≡ length (learned ring (written_in x)) = (h.0.each ring no_counts lt).learned_is in
     let many : length (total rings cs) ≡ rings = total_many rings xs cs h.1 in
     let many_here : length c ≡ rings = h.0.many in
@@ -250,9 +259,9 @@ total_learned rings slots limit F (x ∷ xs) (c ∷ cs) J r h ring lt =
     omega (arith, old, here, counted_there, long)
 
 -- the numbers are those of the journal's lemmas
-pub are_learned : (rings slots limit : ℕ) (F : List (List Literal)) (J : List Entry) (counts : List Counts) → IsHeld rings slots None limit F J counts → length counts ≡ rings
+pub are_learned : (rings slots : ℕ) (every : Option ℕ) (limit : ℕ) (F : List (List Literal)) (J : List Entry) (counts : List Counts) → IsHeld rings slots every limit F J counts → length counts ≡ rings
     → AreLearned rings limit J (map (λ c. c.learned) counts)
-are_learned rings slots limit F J counts held long = record {
+are_learned rings slots every limit F J counts held long = record {
   many = many;
   each = each;
   within = (let sums = sum_learned rings J (map (λ c. c.learned) counts) many each in let few = all held in omega (arith, sums, few));
@@ -261,20 +270,20 @@ are_learned rings slots limit F J counts held long = record {
     many : length (map (λ (c : Counts). c.learned) counts) ≡ rings
     many = length-map counts (λ (c : Counts). c.learned) ∙ long
 
-    rested : (ring : ℕ) → ring < rings → (h : RestsBetween rings slots None limit F J counts) → (counts ≡ total rings h.counts) ⊎ ((h.runs ≡ []) × (counts ≡ [])) → (slice_index_or counts ring no_counts).learned ≡ length (learned ring J)
+    rested : (ring : ℕ) → ring < rings → (h : RestsBetween rings slots every limit F J counts) → (counts ≡ total rings h.counts) ⊎ ((h.runs ≡ []) × (counts ≡ [])) → (slice_index_or counts ring no_counts).learned ≡ length (learned ring J)
     rested ring lt h (inl e) =
-        ap (λ (cs : List Counts). (slice_index_or cs ring no_counts).learned) e ∙ total_learned rings slots limit F h.runs h.counts h.left h.rounds h.tallied ring lt
+        ap (λ (cs : List Counts). (slice_index_or cs ring no_counts).learned) e ∙ total_learned rings slots every limit F h.runs h.counts h.left h.rounds h.tallied ring lt
         ∙ sym (ap length (ap (learned ring) h.journal_is ∙ rests_learn ring h.left h.written h.begun h.rulers))
     rested ring lt h (inr e) = absurd (let none_there : length counts ≡ 0 = ap length e.1 in omega (arith, none_there, long, lt))
 
-    one : (ring : ℕ) → ring < rings → IsHeld rings slots None limit F J counts → (slice_index_or counts ring no_counts).learned ≡ length (learned ring J)
+    one : (ring : ℕ) → ring < rings → IsHeld rings slots every limit F J counts → (slice_index_or counts ring no_counts).learned ≡ length (learned ring J)
     one ring lt (inl h) = rested ring lt h h.tally_is
-    one ring lt (inr h) = ap (λ (cs : List Counts). (slice_index_or cs ring no_counts).learned) h.tally_is ∙ total_learned rings slots limit F (h.last ∷ h.before) h.counts J h.rounds h.tallied ring lt
+    one ring lt (inr h) = ap (λ (cs : List Counts). (slice_index_or cs ring no_counts).learned) h.tally_is ∙ total_learned rings slots every limit F (h.last ∷ h.before) h.counts J h.rounds h.tallied ring lt
 
     each : (ring d : ℕ) → ring < rings → slice_index_or (map (λ (c : Counts). c.learned) counts) ring d ≡ length (learned ring J)
     each ring d lt = get_or-map (λ (c : Counts). c.learned) counts ring no_counts d (omega (arith, long)) ∙ one ring lt held
 
-    all : IsHeld rings slots None limit F J counts → learned_by rings J ≤ limit
+    all : IsHeld rings slots every limit F J counts → learned_by rings J ≤ limit
     all (inl h) = h.within
     all (inr h) = h.within
 
@@ -285,5 +294,5 @@ few_of_none rings limit J none =
     omega (arith, nothing)
 
 -- if the rings together have learned as many lemmas as they may, the tally says so
-pub all_learned : (rings limit : ℕ) (F : List (List Literal)) (J : List Entry) (numbers : List ℕ) → AreLearned rings limit J numbers → LearnedAll F J rings None limit → sum numbers ≡ limit
-all_learned rings limit F J numbers are h = sum_learned rings J numbers are.many are.each ∙ h.learns
+pub all_learned : (rings : ℕ) (every : Option ℕ) (limit : ℕ) (F : List (List Literal)) (J : List Entry) (numbers : List ℕ) → AreLearned rings limit J numbers → LearnedAll F J rings every limit → sum numbers ≡ limit
+all_learned rings every limit F J numbers are h = sum_learned rings J numbers are.many are.each ∙ h.learns

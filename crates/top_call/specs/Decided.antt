@@ -32,7 +32,7 @@ pub record IsClearedModel (formula : FormulaData) (model : List Bool) : Type 0 w
 abbrev pub Holds : Plan → FormulaData → List Entry → SearchVerdict → Type 0
 Holds plan formula journal (Satisfiable model) = IsClearedModel formula model
 Holds plan formula journal Unsatisfiable = IsRefutation formula.clauses journal
-Holds plan formula journal Unknown = LearnedAll formula.clauses journal plan.threads None plan.conflicts
+Holds plan formula journal Unknown = LearnedAll formula.clauses journal plan.threads plan.round plan.conflicts
 
 -- the verdict holds of a run with this plan, in which the simplifiers came to their end
 pub record Decides (plan : Plan) (formula : FormulaData) (journal : List Entry) (verdict : SearchVerdict) : Type 0 where

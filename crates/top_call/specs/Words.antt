@@ -21,6 +21,14 @@ conflicts_rule = record (new_rule (codes "conflicts")) {
   defaults = codes "1000000000" ∷ [];
 }
 
+-- `--round K`, with K from 1 to 10^12
+abbrev pub round_rule : Rule
+round_rule = record (new_rule (codes "round")) {
+  long = Some (codes "round");
+  action = Some Set;
+  parser = Some (Unsigned 1 (10 ^ 12));
+}
+
 -- `--threads N`, with N from 1 to 16; without it N is 4
 abbrev pub threads_rule : Rule
 threads_rule = record (new_rule (codes "threads")) {
@@ -109,7 +117,7 @@ with_rules app (rule ∷ rules) = with_rules (with_rule app rule) rules
 
 -- the options of the program, in their order
 abbrev pub solver_rules : List Rule
-solver_rules = conflicts_rule ∷ threads_rule ∷ words_rule ∷ slots_rule ∷ seed_rule ∷ walk_rule ∷ proof_rule ∷ binary_rule ∷ no_simplify_rule ∷ add_rule ∷ check_rule ∷ make_rule ∷ file_rule ∷ []
+solver_rules = conflicts_rule ∷ round_rule ∷ threads_rule ∷ words_rule ∷ slots_rule ∷ seed_rule ∷ walk_rule ∷ proof_rule ∷ binary_rule ∷ no_simplify_rule ∷ add_rule ∷ check_rule ∷ make_rule ∷ file_rule ∷ []
 
 -- the program's command
 abbrev pub solver_app : App
@@ -121,6 +129,8 @@ pub record Command : Type 0 where
   pub threads : ℕ
   -- how many lemmas the rings may learn together
   pub conflicts : ℕ
+  -- how many of these they may learn in one round; if there is no such number, there is one round
+  pub round : Option ℕ
   -- how many words of 64 bits there are for clauses
   pub words : ℕ
   -- how many slots each two rings have for each class of clauses
@@ -149,6 +159,7 @@ abbrev pub asked_by : Asked → Command
 asked_by asked = record {
   threads = asked.threads;
   conflicts = asked.conflicts;
+  round = asked.round;
   words = asked.words;
   slots = asked.slots;
   seed = asked.seed;
@@ -181,6 +192,7 @@ abbrev pub command_in : List Row → Command
 command_in rows = record {
   threads = number_in (one_of (codes "threads") rows);
   conflicts = number_in (one_of (codes "conflicts") rows);
+  round = option_map number_of (one_of (codes "round") rows);
   words = number_in (one_of (codes "words") rows);
   slots = number_in (one_of (codes "slots") rows);
   seed = number_in (one_of (codes "seed") rows);
@@ -237,6 +249,10 @@ pub record HasNumber (id : List ℕ) (low high : ℕ) (matches : ArgMatches) : T
 -- the matches have a number for `--conflicts`
 abbrev pub HasLimit : ArgMatches → Type 0
 HasLimit = HasNumber (codes "conflicts") 1 (10 ^ 12)
+
+-- the matches have a number for `--round`, or no value
+abbrev pub HasRound : ArgMatches → Type 0
+HasRound matches = (one_text (found_of matches) (codes "round") ≡ None) ⊎ HasNumber (codes "round") 1 (10 ^ 12) matches
 
 -- the matches have a number for `--threads`
 abbrev pub HasThreads : ArgMatches → Type 0

@@ -1,7 +1,7 @@
 // The options of the command line, each by its rule.
 ghost use Rattle.std.specs.Prelude.{◌≡◌, false};
 ghost use Rattle.clap.specs.Words.{rule_of};
-ghost use Rattle.top_call.specs.Words.{conflicts_rule, threads_rule, words_rule, slots_rule, seed_rule, walk_rule, proof_rule, binary_rule, no_simplify_rule, add_rule, check_rule, make_rule, file_rule};
+ghost use Rattle.top_call.specs.Words.{conflicts_rule, round_rule, threads_rule, words_rule, slots_rule, seed_rule, walk_rule, proof_rule, binary_rule, no_simplify_rule, add_rule, check_rule, make_rule, file_rule};
 
 use clap::builder::ValueParser;
 use clap::{Arg, ArgAction};
@@ -22,6 +22,9 @@ const MOST_SLOTS: u64 = 16;
 /// The most lemmas that a ring may be allowed to learn.
 const MOST_CONFLICTS: u64 = 1_000_000_000_000;
 
+/// The most lemmas that the rings may be allowed to learn in one round.
+const MOST_IN_ROUND: u64 = 1_000_000_000_000;
+
 /// The greatest seed.
 const MOST_SEED: u64 = (1 << 63) - 1;
 
@@ -40,6 +43,16 @@ pub(crate) fn conflicts_arg<'a>(alloc: Global) -> Arg<'a>
         .action(ArgAction::Set)
         .value_parser(ValueParser::unsigned(1, MOST_CONFLICTS))
         .default_value("1000000000")
+}
+
+pub(crate) fn round_arg<'a>(alloc: Global) -> Arg<'a>
+    ensures rule { rule_of result ≡ round_rule }
+    ensures local { result.global ≡ false }
+{
+    Arg::new(alloc, "round")
+        .long("round")
+        .action(ArgAction::Set)
+        .value_parser(ValueParser::unsigned(1, MOST_IN_ROUND))
 }
 
 pub(crate) fn threads_arg<'a>(alloc: Global) -> Arg<'a>

@@ -6,7 +6,7 @@ ghost use Rattle.top_call.specs.Planned.{rounds_of};
 
 use sat_words::ProofFormat;
 
-/// How many rounds of simplifiers a formula may get.
+/// How many rounds of simplifiers a formula may get before each round of the rings.
 pub const ROUNDS: u32 = 3;
 
 /// How a formula is decided.
@@ -18,7 +18,7 @@ pub struct CallPlan {
     pub make: Option<u64>,
 }
 
-/// How many rounds of simplifiers a formula may get.
+/// How many rounds of simplifiers a formula may get before each round of the rings.
 pub fn rounds_of(no_simplify: bool) -> u32
     ensures { result ≡ rounds_of no_simplify }
 {

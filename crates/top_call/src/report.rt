@@ -131,7 +131,7 @@ impl RingNumbers {
 /// The numbers of a report. The lists have a number for each ring once the rings were to start, and are empty before.
 #[derive(Drop)]
 pub struct Tally {
-    /// How many lemmas each ring learned.
+    /// How many lemmas each ring learned, in all rounds together; so of the next two.
     pub learned: RingNumbers,
     /// How many clauses each ring put into the slots of others.
     pub offered: RingNumbers,

@@ -208,6 +208,7 @@ fn plan_in(command: &Command<'_>) -> CallPlan
     let search = portfolio_run::Plan {
         threads: command.threads,
         conflicts: command.conflicts,
+        round: command.round,
         words: command.words,
         slots: command.slots,
         seed: command.seed,

@@ -1,14 +1,14 @@
 // The arguments of the command line.
-ghost use Rattle.std.specs.Prelude.{◌≡◌, ◌≤◌, ◌^◌, ◌↔◌, false, map, string_bytes, IfOk, IfErr, IsErrOf, Some, None};
+ghost use Rattle.std.specs.Prelude.{◌≡◌, ◌≤◌, ◌^◌, ◌↔◌, false, map, string_bytes, IfOk, IfErr, IfSome, IsErrOf, Some, None};
 ghost use Rattle.clap.specs.Words.{app_of, found_of, rows_of};
 ghost use Rattle.clap.specs.declared.error.kind.ErrorKind.TheVariants.{OutOfMemory};
 ghost use Rattle.top_call.specs.Ends.{IsWordsEnd};
 ghost use Rattle.top_call.specs.Planned.{IsInRange, search_of};
-ghost use Rattle.top_call.specs.Words.{HasThreads, HasLimit, HasWords, HasSlots, HasSeed, HasWalk, HasMade, asked_by, command_in, command_of, unless_both, solver_app};
+ghost use Rattle.top_call.specs.Words.{HasThreads, HasLimit, HasRound, HasWords, HasSlots, HasSeed, HasWalk, HasMade, asked_by, command_in, command_of, unless_both, solver_app};
 
 use crate::options::{
     add_arg, binary_arg, check_arg, conflicts_arg, file_arg, make_arg, no_simplify_arg, proof_arg,
-    seed_arg, slots_arg, threads_arg, walk_arg, words_arg,
+    round_arg, seed_arg, slots_arg, threads_arg, walk_arg, words_arg,
 };
 use crate::report::CallEnd;
 use clap::ArgMatches;
@@ -22,6 +22,8 @@ pub struct Command<'a> {
     pub threads: u32,
     /// How many lemmas the rings may learn together.
     pub conflicts: u64,
+    /// How many of these they may learn in one round; if there is no such number, there is one round.
+    pub round: Option<u64>,
     /// How many words of 64 bits there are for clauses.
     pub words: u64,
     /// How many slots each two rings have for each class of clauses.
@@ -55,6 +57,7 @@ fn solver<'a>(alloc: Global) -> Result<clap::Command<'a>, AllocError>
         .disable_help_flag(true)
         .disable_version_flag(true);
     bare.arg(conflicts_arg(alloc))?
+        .arg(round_arg(alloc))?
         .arg(threads_arg(alloc))?
         .arg(words_arg(alloc))?
         .arg(slots_arg(alloc))?
@@ -120,6 +123,19 @@ fn conflicts_in(matches: &ArgMatches<'_>) -> u64
         Some(number) => number,
         // `HasLimit`: if the option is left out its default stands
         None => unreachable!(),
+    }
+}
+
+/// How many of these they may learn in one round, if there is such a number.
+fn round_in(matches: &ArgMatches<'_>) -> Option<u64>
+    requires { HasRound matches.now }
+    ensures number { result ≡ (command_in (rows_of (found_of matches.now))).round }
+    ensures some { IfSome result (λ every. 1 ≤ every) }
+    ensures few { IfSome result (λ every. every ≤ 10 ^ 12) }
+{
+    match matches.get_one::<u64>("round") {
+        Some(number) => Some(number),
+        None => None,
     }
 }
 
@@ -202,6 +218,7 @@ fn make_in(matches: &ArgMatches<'_>) -> Option<u64>
 fn command_in<'a>(matches: &ArgMatches<'a>) -> Command<'a>
     requires threads { HasThreads matches.now }
     requires limit { HasLimit matches.now }
+    requires round { HasRound matches.now }
     requires words { HasWords matches.now }
     requires slots { HasSlots matches.now }
     requires seed { HasSeed matches.now }
@@ -213,6 +230,7 @@ fn command_in<'a>(matches: &ArgMatches<'a>) -> Command<'a>
     Command {
         threads: threads_in(matches),
         conflicts: conflicts_in(matches),
+        round: round_in(matches),
         words: words_in(matches),
         slots: slots_in(matches),
         seed: seed_in(matches),

@@ -1,12 +1,11 @@
-use Rattle.std.proofs.Common.{refl, ◌≡◌, ◌∙◌, sym, subst, ap, Ok, length}
+use Rattle.std.proofs.Common.{◌∙◌, sym, subst, ap, Ok, length}
 use Rattle.drat_text.specs.LineState.{LineState}
 use Rattle.log_book.specs.Books.{told_new, told_of}
 use Rattle.ruler_simp.specs.Ruled.{Ruled}
-use Rattle.ruler_simp.specs.declared.ruling.Outcome.TheVariants.{Simplified as LeftOver}
 use Rattle.portfolio_run.specs.Reached.{WasRuled, HasReached}
 use Rattle.portfolio_run.specs.Ruled.{schedule_of}
 use Rattle.portfolio_run.specs.declared.answer.Answer.{Answer}
-use Rattle.portfolio_run.proofs.Ruling.{refuted_book, stopped_book}
+use Rattle.portfolio_run.proofs.Ruling.{refuted_book, stopped_book, paused_first}
 use Rattle.portfolio_run.proofs.solving.solve_counted.Goals as goal
 
 pub solve_left-requires : goal.solve_left-requires
@@ -20,47 +19,12 @@ solve_left-requires g c κs within =
     let b = c.simplify-outcome.result.1 in
     let q = c.requires.1.1.1.1.1.1 in
     let was : WasRuled w f t fa g.given plan F b c.simplify-outcome.result.0 = record {
-      empty = q.1.1.1.1.1.1.1.0;
+      empty = q.1.1.1.1.1.1.1.1.0;
       ruled = subst (λ (s : LineState). Ruled F (schedule_of plan) s (told_of w f t fa b) c.simplify-outcome.result.0)
           (c.in-Ok.ensures.told ∙ (λ i. told_new w f t fa plan.format (length (c.clauses.ensures i)) (q.0 i) plan.keep_lines)) c.simplify-outcome.ensures;
     } in
-    let is : c.simplify-outcome.result.0 ≡ Ok (LeftOver c.in-Ok-Simplified.left) = c.in-Ok-Simplified.is ∙ ap Ok c.in-Ok-Simplified.field-0-is in (
-      within.0,
-      (
-        within.1.0,
-        (
-          within.1.1,
-          (
-            c.requires.1.1.1.0,
-            (
-              c.requires.1.1.1.1.0,
-              (
-                c.requires.1.1.1.1.1.0,
-                (
-                  q.1.0,
-                  (
-                    q.1.1.0,
-                    (
-                      q.1.1.1.0,
-                      (
-                        q.1.1.1.1.0,
-                        (
-                          q.1.1.1.1.1.0,
-                          (
-                            q.1.1.1.1.1.1.0,
-                            (subst (WasRuled w f t fa g.given plan F b) is was, (refl, q.1.1.1.1.1.1.1.1)),
-                          ),
-                        ),
-                      ),
-                    ),
-                  ),
-                ),
-              ),
-            ),
-          ),
-        ),
-      ),
-    )
+    let paused = paused_first w f t fa g.given plan F b c.simplify-outcome.result.0 c.args.tally.items q.1.1.1.1.1.1.0 q.1.1.1.1.1.1.1.0 q.1.0.0 q.1.1.1.1.1.1.1.1.1.0 was c.in-Ok-Simplified.left (c.in-Ok-Simplified.is ∙ ap Ok c.in-Ok-Simplified.field-0-is) in
+    (within.0, (within.1.0, (within.1.1, (c.requires.1.1.1.0, (c.requires.1.1.1.1.0, (c.requires.1.1.1.1.1.0, (q.1.0, (q.1.1.0, (q.1.1.1.0, (q.1.1.1.1.0, (q.1.1.1.1.1.0, (q.1.1.1.1.1.1.0, (q.1.1.1.1.1.1.1.0, (q.1.1.1.1.1.1.1.1.0, (paused, q.1.1.1.1.1.1.1.1.1.1)))))))))))))))
 
 pub finish-requires : goal.finish-requires
 finish-requires g c κs within =
@@ -73,13 +37,12 @@ finish-requires g c κs within =
     let b = c.simplify-outcome.result.1 in
     let q = c.requires.1.1.1.1.1.1 in
     let was : WasRuled w f t fa g.given plan F b c.simplify-outcome.result.0 = record {
-      empty = q.1.1.1.1.1.1.1.0;
+      empty = q.1.1.1.1.1.1.1.1.0;
       ruled = subst (λ (s : LineState). Ruled F (schedule_of plan) s (told_of w f t fa b) c.simplify-outcome.result.0)
           (c.in-Ok.ensures.told ∙ (λ i. told_new w f t fa plan.format (length (c.clauses.ensures i)) (q.0 i) plan.keep_lines)) c.simplify-outcome.ensures;
     } in (
       within,
-      refuted_book w f t fa g.given plan F b c.simplify-outcome.result.0 c.args.tally.items q.1.1.1.1.1.0 q.1.1.1.1.1.1.0 q.1.0.0 q.1.1.1.1.1.1.1.1 was c.has_its_log.ensures.whole c.has_its_log.ensures.cut
-          (c.in-Ok-Refuted.is ∙ ap Ok c.in-Ok-Refuted.field-0-is),
+      refuted_book w f t fa g.given plan F b c.simplify-outcome.result.0 c.args.tally.items q.1.1.1.1.1.1.0 q.1.1.1.1.1.1.1.0 q.1.0.0 q.1.1.1.1.1.1.1.1.1.0 was c.has_its_log.ensures.whole c.has_its_log.ensures.cut (c.in-Ok-Refuted.is ∙ ap Ok c.in-Ok-Refuted.field-0-is),
     )
 
 pub finish-requires-in-Err-outcome : goal.finish-requires-in-Err-outcome
@@ -93,11 +56,11 @@ finish-requires-in-Err-outcome g c κs within =
     let b = c.simplify-outcome.result.1 in
     let q = c.requires.1.1.1.1.1.1 in
     let was : WasRuled w f t fa g.given plan F b c.simplify-outcome.result.0 = record {
-      empty = q.1.1.1.1.1.1.1.0;
+      empty = q.1.1.1.1.1.1.1.1.0;
       ruled = subst (λ (s : LineState). Ruled F (schedule_of plan) s (told_of w f t fa b) c.simplify-outcome.result.0)
           (c.in-Ok.ensures.told ∙ (λ i. told_new w f t fa plan.format (length (c.clauses.ensures i)) (q.0 i) plan.keep_lines)) c.simplify-outcome.ensures;
     } in (
       within,
       subst (λ (a : Answer). HasReached w f t fa g.given plan F a c.args.tally.items b) (sym c.answer_of_stop.ensures)
-          (stopped_book w f t fa g.given plan F b c.simplify-outcome.result.0 c.args.tally.items q.1.1.1.1.1.0 q.1.1.1.1.1.1.0 q.1.0.0 q.1.1.1.1.1.1.1.1 was c.has_its_log.ensures.whole c.has_its_log.ensures.cut c.in-Err-outcome.stop c.in-Err-outcome.is),
+          (stopped_book w f t fa g.given plan F b c.simplify-outcome.result.0 c.args.tally.items q.1.1.1.1.1.1.0 q.1.1.1.1.1.1.1.0 q.1.0.0 q.1.1.1.1.1.1.1.1.1.0 was c.has_its_log.ensures.whole c.has_its_log.ensures.cut c.in-Err-outcome.stop c.in-Err-outcome.is),
     )

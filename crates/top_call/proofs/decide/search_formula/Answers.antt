@@ -18,7 +18,7 @@ count-requires g c =
     let solved = c.solve-answer.ensures.solved in
     let counts = c.solve-answer.result.tally.items in
     subst (λ (cs : List Counts). HasRings (length c.args.tally.now.learned) c.args.tally.now × (length cs ≤ length c.args.tally.now.learned)) (sym c.as_slice.ensures.value)
-    (fits_zero plan.threads counts c.args.tally.now c.requires.started (sizes plan.threads plan.slots plan.conflicts c.args.formula.now.clauses solved.journal counts solved.reached.held))
+    (fits_zero plan.threads counts c.args.tally.now c.requires.started (sizes plan.threads plan.slots plan.round plan.conflicts c.args.formula.now.clauses solved.journal counts solved.reached.held))
 
 pub finish-requires-clause-kept : goal.finish-requires-clause-kept
 finish-requires-clause-kept g c =

@@ -3,11 +3,14 @@ use Rattle.std.specs.Prelude.{string_bytes, Result, IfErr, IsErrOf}
 use Rattle.std.proofs.lemmas.Result.{IfOk-weaker}
 use Rattle.clap.specs.Words.{App, fault_of, is_simple, is_simple_and_free, kind_of, matches_of}
 use Rattle.top_call.specs.Words.{command_in, unless_both}
-use Rattle.top_call.proofs.CommandLine.{threads_of, limit_of, words_of, slots_of, seed_of, walk_of, made_of, lawful_words, refused_words, solver_simple, solver_free}
+use Rattle.top_call.proofs.CommandLine.{threads_of, limit_of, round_of, words_of, slots_of, seed_of, walk_of, made_of, lawful_words, refused_words, solver_simple, solver_free}
 use Rattle.top_call.proofs.words.parse.Goals as goal
 
 pub command_in-requires-clause-limit : goal.command_in-requires-clause-limit
 command_in-requires-clause-limit c = limit_of c.in-Ok.command _ c.in-Ok.ensures c.in-Ok-try_get_matches_from.ensures.parsed
+
+pub command_in-requires-clause-round : goal.command_in-requires-clause-round
+command_in-requires-clause-round c = round_of c.in-Ok.command _ c.in-Ok.ensures c.in-Ok-try_get_matches_from.ensures.parsed
 
 pub command_in-requires-clause-threads : goal.command_in-requires-clause-threads
 command_in-requires-clause-threads c = threads_of c.in-Ok.command _ c.in-Ok.ensures c.in-Ok-try_get_matches_from.ensures.parsed

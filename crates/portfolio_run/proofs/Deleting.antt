@@ -1,0 +1,348 @@
+-- The ruler deletes some of the clauses that a table held.
+use Rattle.std.proofs.Common.{◌≡◌, ◌≢◌, ◌↔◌, ℕ, zero, suc, ◌<◌, Bool, true, false, not, List, [], ◌∷◌, ◌++◌, map, cond, length, get_or, refl, sym, ap, subst, ◌∙◌, inl, inr, arith, append_assoc, append-nil, filter, eqb}
+use Rattle.std.specs.List.{All, Contains, list_any}
+use Rattle.std.specs.Prelude.{⊤, Err}
+use Rattle.std.proofs.lemmas.Bool.{true≢false, cases_Bool, eqb-true, eq-eqb}
+use Rattle.std.proofs.lemmas.List.{map-append}
+use Rattle.std.proofs.lemmas.List.Elements.{filter-append}
+use Rattle.sat_words.specs.Literal.{Literal, IsOn}
+use Rattle.sat_words.specs.Clause.{same_set, is_empty, clause_of, two_or_more}
+use Rattle.sat_words.specs.declared.line.Line.{Line}
+use Rattle.rup_model.specs.declared.journal.Entry.{Entry}
+use Rattle.rup_model.specs.Journal.{added, LogSound}
+use Rattle.rup_model.proofs.Additions.{added-append}
+use Rattle.rup_model.proofs.Lists.{In, In_append_left, In_append_right, In_map, map_In, Contains_In, In_Contains}
+use Rattle.model_stack.specs.declared.stack.Fix.{Fix}
+use Rattle.io_edge.specs.Causes.{Rose}
+use Rattle.drat_text.specs.LineState.{LineState}
+use Rattle.drat_text.specs.LineOut.{PutLine, WasPut}
+use Rattle.drat_text.specs.declared.stop.LineStop.{LineStop}
+use Rattle.drat_text.specs.declared.stop.LineStop.TheVariants.{ProofFault, Full, Memory}
+use Rattle.drat_text.specs.JournalText.{Origin}
+use Rattle.share_rule.specs.declared.rests.Rest.{Rest}
+use Rattle.simp_base.specs.WorkState.{WorkState, HaveOwnNumbers, resumed}
+use Rattle.simp_base.specs.Log.{Stands, HasLines}
+use Rattle.simp_base.specs.Resumed.{Resumes}
+use Rattle.simp_base.specs.Calls.{ruler_deletes}
+use Rattle.simp_base.specs.Causes.{HasOutputCause}
+use Rattle.simp_base.proofs.Filters.{In_filter, filter_In}
+use Rattle.simp_base.proofs.Lists.{All_In}
+use Rattle.simp_base.proofs.Resuming.{resumed_work, resumed_stands}
+use Rattle.simp_base.proofs.Steps.{nothing_more, stands_deleted, stands_failed, one_del, valid_del, fit_del, on_clause}
+use Rattle.portfolio_run.specs.Rulings.{deletions}
+use Rattle.portfolio_run.specs.Resumed.{is_dropped, cell_of, dropped_of, kept_of, deletion_of, TookLines, TookFront, AreLeftAfter}
+
+-- Lines
+
+pub took_more : (xs : List Line) (old middle new : LineState) (x : Line) → TookLines old xs middle → PutLine middle new x 0 → TookLines old (xs ++ x ∷ []) new
+took_more [] old middle new x is put = (new, subst (λ s. PutLine s new x 0) is put, refl)
+took_more (y ∷ ys) old middle new x h put = (h.0, h.1, took_more ys h.0 middle new x h.2 put)
+
+pub took_spent : (xs : List Line) (old new : LineState) → TookLines old xs new → new.spent ≡ old.spent
+took_spent [] old new is = ap (λ (s : LineState). s.spent) is
+took_spent (x ∷ xs) old new h = took_spent xs h.0 new h.2 ∙ ap (λ (s : LineState). s.spent) h.1.state
+
+pub took_faults : (xs : List Line) (old new : LineState) → TookLines old xs new → new.faults ≡ old.faults
+took_faults [] old new is = ap (λ (s : LineState). s.faults) is
+took_faults (x ∷ xs) old new h = took_faults xs h.0 new h.2 ∙ ap (λ (s : LineState). s.faults) h.1.state
+
+-- One more
+
+kept_next : (done : List Rest) (r : Rest) → is_dropped r ≡ false → kept_of (done ++ r ∷ []) ≡ kept_of done ++ cell_of r ∷ []
+kept_next done r e =
+    ap (map cell_of) (filter-append (λ r. not (is_dropped r)) done (r ∷ []))
+    ∙ map-append cell_of (filter (λ r. not (is_dropped r)) done) (filter (λ r. not (is_dropped r)) (r ∷ []))
+    ∙ ap (λ (b : Bool). kept_of done ++ map cell_of (cond (not b) (r ∷ []) [])) e
+
+-- one more is kept
+pub kept_more : (done : List Rest) (r : Rest) (old new : List (ℕ × List Literal)) → new ≡ old ++ cell_of r ∷ [] → old ≡ kept_of done → is_dropped r ≡ false → new ≡ kept_of (done ++ r ∷ [])
+kept_more done r old new is was e = is ∙ ap (λ cs. cs ++ cell_of r ∷ []) was ∙ sym (kept_next done r e)
+
+pub kept_same : (done : List Rest) (r : Rest) → is_dropped r ≡ true → kept_of (done ++ r ∷ []) ≡ kept_of done
+kept_same done r e =
+    ap (map cell_of) (filter-append (λ r. not (is_dropped r)) done (r ∷ []))
+    ∙ map-append cell_of (filter (λ r. not (is_dropped r)) done) (filter (λ r. not (is_dropped r)) (r ∷ []))
+    ∙ ap (λ (b : Bool). kept_of done ++ map cell_of (cond (not b) (r ∷ []) [])) e
+    ∙ append-nil (kept_of done)
+
+pub dropped_next : (done : List Rest) (r : Rest) → is_dropped r ≡ true → filter is_dropped (done ++ r ∷ []) ≡ filter is_dropped done ++ r ∷ []
+dropped_next done r e = filter-append is_dropped done (r ∷ []) ∙ ap (λ (b : Bool). filter is_dropped done ++ cond b (r ∷ []) []) e
+
+pub dropped_same : (done : List Rest) (r : Rest) → is_dropped r ≡ false → filter is_dropped (done ++ r ∷ []) ≡ filter is_dropped done
+dropped_same done r e = filter-append is_dropped done (r ∷ []) ∙ ap (λ (b : Bool). filter is_dropped done ++ cond b (r ∷ []) []) e ∙ append-nil (filter is_dropped done)
+
+-- those of a list that is cut at one of them
+pub dropped_cut : (done : List Rest) (r : Rest) (rs : List Rest) → is_dropped r ≡ true → filter is_dropped (done ++ r ∷ rs) ≡ filter is_dropped done ++ r ∷ filter is_dropped rs
+dropped_cut done r rs e = filter-append is_dropped done (r ∷ rs) ∙ ap (λ (b : Bool). filter is_dropped done ++ cond b (r ∷ filter is_dropped rs) (filter is_dropped rs)) e
+
+-- Numbers
+
+own_tail : (x : ℕ × List Literal) (xs : List (ℕ × List Literal)) → HaveOwnNumbers (x ∷ xs) → HaveOwnNumbers xs
+own_tail x xs own i j d lt within = own (suc i) (suc j) d (omega arith) (omega arith)
+
+own_head : (x : ℕ × List Literal) (xs : List (ℕ × List Literal)) → HaveOwnNumbers (x ∷ xs) → (y : ℕ × List Literal) → In y xs → x.0 ≢ y.0
+own_head x xs own y i e = let h = In_Contains xs y i in own 0 (suc h.0) y (omega arith) (let lt = h.1 in omega arith) (e ∙ sym (ap (λ (z : ℕ × List Literal). z.0) h.2))
+
+own_more : (x : ℕ × List Literal) (xs : List (ℕ × List Literal)) → ((y : ℕ × List Literal) → In y xs → x.0 ≢ y.0) → HaveOwnNumbers xs → HaveOwnNumbers (x ∷ xs)
+own_more x xs first own zero zero d lt within = absurd (omega arith)
+own_more x xs first own (suc i) zero d lt within = absurd (omega arith)
+own_more x xs first own zero (suc j) d lt within = first (get_or xs j d) (Contains_In xs (get_or xs j d) (j, omega arith, get_or_here xs j d (omega arith)))
+  where
+    get_or_here : (ys : List (ℕ × List Literal)) (k : ℕ) (e : ℕ × List Literal) → k < length ys → get_or ys k (get_or ys k e) ≡ get_or ys k e
+    get_or_here [] k e l = absurd (omega arith)
+    get_or_here (y ∷ ys) zero e l = refl
+    get_or_here (y ∷ ys) (suc k) e l = get_or_here ys k e (omega arith)
+own_more x xs first own (suc i) (suc j) d lt within = own i j d (omega arith) (omega arith)
+
+-- no two of these have one number
+abbrev Apart : List Rest → Type 0
+Apart [] = ⊤
+Apart (r ∷ rs) = ((e : Rest) → In e rs → r.number ≢ e.number) × Apart rs
+
+apart_own : (rs : List Rest) → HaveOwnNumbers (map cell_of rs) → Apart rs
+apart_own [] own = tt
+apart_own (r ∷ rs) own = (λ e i. own_head (cell_of r) (map cell_of rs) own (cell_of e) (In_map cell_of rs e i), apart_own rs (own_tail (cell_of r) (map cell_of rs) own))
+
+own_apart : (rs : List Rest) → Apart rs → HaveOwnNumbers (map cell_of rs)
+own_apart [] h = λ i j d lt within. absurd (omega arith)
+own_apart (r ∷ rs) h = own_more (cell_of r) (map cell_of rs) (λ y i. (let t = map_In cell_of rs y i in λ e. h.0 t.0 t.1 (e ∙ sym (ap (λ (z : ℕ × List Literal). z.0) t.2)))) (own_apart rs h.1)
+
+apart_filter : (p : Rest → Bool) (rs : List Rest) → Apart rs → Apart (filter p rs)
+apart_filter p [] h = tt
+apart_filter p (r ∷ rs) h = by (p r) (apart_filter p rs h.1)
+  where
+    by : (b : Bool) → Apart (filter p rs) → Apart (cond b (r ∷ filter p rs) (filter p rs))
+    by true others = (λ e i. h.0 e (filter_In p rs e i).0, others)
+    by false others = others
+
+apart_front : (ds es : List Rest) → Apart (ds ++ es) → Apart ds
+apart_front [] es h = tt
+apart_front (d ∷ ds) es h = (λ e i. h.0 e (In_append_left ds es e i), apart_front ds es h.1)
+
+apart_next : (ds : List Rest) (r : Rest) (es : List Rest) → Apart (ds ++ r ∷ es) → (d : Rest) → In d ds → r.number ≢ d.number
+apart_next [] r es h d i = absurd i
+apart_next (x ∷ ds) r es h d (inl e) = λ q. h.0 r (In_append_right ds (r ∷ es) r (inl refl)) (ap (λ (z : Rest). z.number) e ∙ sym q)
+apart_next (x ∷ ds) r es h d (inr i) = apart_next ds r es h.1 d i
+
+apart_one : (rs : List Rest) → Apart rs → (a b : Rest) → In a rs → In b rs → a.number ≡ b.number → a ≡ b
+apart_one [] h a b i j e = absurd i
+apart_one (r ∷ rs) h a b (inl p) (inl q) e = sym p ∙ q
+apart_one (r ∷ rs) h a b (inl p) (inr j) e = absurd (h.0 b j (ap (λ (z : Rest). z.number) p ∙ e))
+apart_one (r ∷ rs) h a b (inr i) (inl q) e = absurd (h.0 a i (ap (λ (z : Rest). z.number) q ∙ sym e))
+apart_one (r ∷ rs) h a b (inr i) (inr j) e = apart_one rs h.1 a b i j e
+
+-- Clauses without some numbers
+
+abbrev without : ℕ → List (ℕ × List Literal) → List (ℕ × List Literal)
+without n cs = filter (λ c. not (eqb c.0 n)) cs
+
+differ : (a b : ℕ) → a ≢ b → not (eqb a b) ≡ true
+differ a b ne = elim (cases_Bool (eqb a b)) as (λ _. not (eqb a b) ≡ true) [
+  | inl same ↦ absurd (ne (eqb-true a b same))
+  | inr other ↦ ap not other
+]
+
+differ_not : (a b : ℕ) → not (eqb a b) ≡ true → a ≢ b
+differ_not a b h e = true≢false (sym h ∙ ap not (eq-eqb a b e))
+
+without_others : (number : ℕ) (cs : List (ℕ × List Literal)) (n : ℕ) (c : List Literal) → Contains (without number cs) (n, c) ↔ (Contains cs (n, c) × (n ≢ number))
+without_others number cs n c = (
+  λ h. (let t = filter_In (λ (x : ℕ × List Literal). not (eqb x.0 number)) cs (n, c) (Contains_In (without number cs) (n, c) h) in (In_Contains cs (n, c) t.0, differ_not n number t.1)),
+  λ h. In_Contains (without number cs) (n, c) (In_filter (λ (x : ℕ × List Literal). not (eqb x.0 number)) cs (n, c) (Contains_In cs (n, c) h.0) (differ n number h.1)),
+)
+
+abbrev without_all : List Rest → List (ℕ × List Literal) → List (ℕ × List Literal)
+without_all [] cs = cs
+without_all (d ∷ ds) cs = without_all ds (without d.number cs)
+
+from_without : (ds : List Rest) (cs : List (ℕ × List Literal)) (n : ℕ) (c : List Literal) → Contains (without_all ds cs) (n, c) → Contains cs (n, c) × ((d : Rest) → In d ds → n ≢ d.number)
+from_without [] cs n c h = (h, λ d i. absurd i)
+from_without (x ∷ ds) cs n c h =
+    let t = from_without ds (without x.number cs) n c h in
+    let u = (without_others x.number cs n c).0 t.0 in
+    (u.0, λ d i. each d i u.1 t.1)
+  where
+    each : (d : Rest) → In d (x ∷ ds) → n ≢ x.number → ((e : Rest) → In e ds → n ≢ e.number) → n ≢ d.number
+    each d (inl e) first others = λ q. first (q ∙ sym (ap (λ (z : Rest). z.number) e))
+    each d (inr i) first others = others d i
+
+to_without : (ds : List Rest) (cs : List (ℕ × List Literal)) (n : ℕ) (c : List Literal) → Contains cs (n, c) → ((d : Rest) → In d ds → n ≢ d.number) → Contains (without_all ds cs) (n, c)
+to_without [] cs n c h other = h
+to_without (x ∷ ds) cs n c h other = to_without ds (without x.number cs) n c ((without_others x.number cs n c).1 (h, other x (inl refl))) (λ d i. other d (inr i))
+
+-- what is kept has other numbers than what is dropped
+kept_without : (rs : List Rest) → Apart rs → (n : ℕ) (c : List Literal) → Contains (kept_of rs) (n, c) → Contains (without_all (filter is_dropped rs) (map cell_of rs)) (n, c)
+kept_without rs apart n c h =
+    let t = map_In cell_of (filter (λ r. not (is_dropped r)) rs) (n, c) (Contains_In (kept_of rs) (n, c) h) in
+    let u = filter_In (λ r. not (is_dropped r)) rs t.0 t.1 in
+    let n_is : t.0.number ≡ n = ap (λ (z : ℕ × List Literal). z.0) t.2 in
+    to_without (filter is_dropped rs) (map cell_of rs) n c
+    (subst (Contains (map cell_of rs)) t.2 (In_Contains (map cell_of rs) (cell_of t.0) (In_map cell_of rs t.0 u.0)))
+    (λ d i e. (
+    let v = filter_In is_dropped rs d i in
+    let same : t.0 ≡ d = apart_one rs apart t.0 d u.0 v.0 (n_is ∙ e) in
+    true≢false (sym u.1 ∙ ap not (ap is_dropped same ∙ v.1))))
+
+without_kept : (rs : List Rest) → (n : ℕ) (c : List Literal) → Contains (without_all (filter is_dropped rs) (map cell_of rs)) (n, c) → Contains (kept_of rs) (n, c)
+without_kept rs n c h =
+    let f = from_without (filter is_dropped rs) (map cell_of rs) n c h in
+    let t = map_In cell_of rs (n, c) (Contains_In (map cell_of rs) (n, c) f.0) in
+    let n_is : t.0.number ≡ n = ap (λ (z : ℕ × List Literal). z.0) t.2 in
+    elim (cases_Bool (is_dropped t.0)) as (λ _. Contains (kept_of rs) (n, c)) [
+      | inl gone ↦ absurd (f.1 t.0 (In_filter is_dropped rs t.0 t.1 gone) (sym n_is))
+      | inr stays ↦ subst (Contains (kept_of rs)) t.2 (In_Contains (kept_of rs) (cell_of t.0) (In_map cell_of (filter (λ r. not (is_dropped r)) rs) t.0 (In_filter (λ r. not (is_dropped r)) rs t.0 t.1 (ap not stays))))
+    ]
+
+-- Journals
+
+added_none : (ns : List ℕ) → added (deletions ns) ≡ []
+added_none [] = refl
+added_none (n ∷ ns) = added-append (ruler_deletes n ∷ []) (deletions ns) ∙ added_none ns
+
+added_same : (J : List Entry) (ns : List ℕ) → added (J ++ deletions ns) ≡ added J
+added_same J ns = added-append J (deletions ns) ∙ ap (λ G. added J ++ G) (added_none ns) ∙ append-nil (added J)
+
+-- Deletions, one after another
+
+module _ (F : List (List Literal)) (vars : ℕ) (us : List Literal) (stack : List Fix) (old : LineState) (J : List Entry) where
+  abbrev o : Origin
+  o = record { formula = F; journal = J; output = old }
+
+  abbrev at : List (ℕ × List Literal) → LineState → WorkState
+  at cs out = resumed vars cs us stack out
+
+  stand : (ds : List Rest) (cs : List (ℕ × List Literal)) (middle new : LineState) (mine : List Entry) → Stands o mine (at cs middle) → middle.spent ≡ false → Apart ds → ((d : Rest) → In d ds → Contains cs (cell_of d))
+      → ((d : Rest) → In d ds → two_or_more d.clause ≡ true) → TookLines middle (map deletion_of ds) new → Stands o (mine ++ deletions (map (λ r. r.number) ds)) (at (without_all ds cs) new)
+  stand [] cs middle new mine s unspent apart held long took = nothing_more o mine (at cs new) (subst (λ out. Stands o mine (at cs out)) (sym took) s)
+  stand (d ∷ ds) cs middle new mine s unspent apart held long took =
+      subst (λ es. Stands o es (at (without_all ds (without d.number cs)) new)) (append_assoc mine (ruler_deletes d.number ∷ []) (deletions (map (λ r. r.number) ds)))
+      (stand ds (without d.number cs) took.0 new (mine ++ ruler_deletes d.number ∷ [])
+      (stands_deleted o mine (at cs middle) s d.number d.clause (held d (inl refl)) (long d (inl refl)) refl (without d.number cs) (without_others d.number cs) took.0 unspent took.1)
+      (ap (λ (out : LineState). out.spent) took.1.state ∙ unspent)
+      apart.1
+      (λ e i. (without_others d.number cs e.number e.clause).1 (held e (inr i), λ q. apart.0 e i (sym q)))
+      (λ e i. long e (inr i))
+      took.2)
+
+  module _ (rs : List Rest) (left : AreLeftAfter F vars rs us stack old J) (unspent : old.spent ≡ false) where
+    apart : Apart rs
+    apart = apart_own rs left.0.numbers
+
+    first : Stands o [] (at (map cell_of rs) old)
+    first = resumed_stands F vars (map cell_of rs) us stack old unspent J left.0
+
+    held_all : (d : Rest) → In d rs → Contains (map cell_of rs) (cell_of d)
+    held_all d i = In_Contains (map cell_of rs) (cell_of d) (In_map cell_of rs d i)
+
+    long_all : (d : Rest) → In d rs → two_or_more d.clause ≡ true
+    long_all d i = All_In (λ r. two_or_more r.clause ≡ true) rs d left.1 i
+
+    -- All of them
+
+    module _ (new : LineState) (took : TookLines old (map deletion_of (filter is_dropped rs)) new) where
+      abbrev rest : List (ℕ × List Literal)
+      rest = without_all (filter is_dropped rs) (map cell_of rs)
+
+      stands_after : Stands o (deletions (dropped_of rs)) (at rest new)
+      stands_after = stand (filter is_dropped rs) (map cell_of rs) old new [] first unspent (apart_filter is_dropped rs apart) (λ d i. held_all d (filter_In is_dropped rs d i).0) (λ d i. long_all d (filter_In is_dropped rs d i).0) took
+
+      pub lines_after : HasLines o (deletions (dropped_of rs)) vars new
+      lines_after = stands_after.lines
+
+      own_kept : HaveOwnNumbers (kept_of rs)
+      own_kept = own_apart (filter (λ r. not (is_dropped r)) rs) (apart_filter (λ r. not (is_dropped r)) rs apart)
+
+      pub resumes_after : Resumes F vars (kept_of rs) us stack new (J ++ deletions (dropped_of rs))
+      resumes_after =
+          let s = stands_after in
+          let same = added_same J (dropped_of rs) in record {
+            sound = s.sound;
+            going = subst (λ (G : List (List Literal)). list_any is_empty (F ++ G) ≡ false) (sym same) left.0.going;
+            numbers = own_kept;
+            held = λ n c i. s.held n c (kept_without rs apart n c i);
+            all = λ n c is part. elim (s.all n c is) as (λ _. Contains (kept_of rs) (n, clause_of c)) [
+              | inl i ↦ without_kept rs n (clause_of c) i
+              | inr passed ↦ absurd (true≢false (sym part ∙ passed.idle))
+            ];
+            told = s.told;
+            every = λ l t. left.0.every l (subst (λ (G : List (List Literal)). list_any (same_set (l ∷ [])) (F ++ G) ≡ true) same t);
+            distinct = left.0.distinct;
+            on = subst (λ (G : List (List Literal)). All (All (IsOn vars)) (F ++ G)) (sym same) left.0.on;
+            stack_on = left.0.stack_on;
+            entries = s.lines.entries;
+            last = s.lines.last;
+          }
+
+    -- A front of them
+
+    module _ (ds es : List Rest) (front_of : filter is_dropped rs ≡ ds ++ es) (middle : LineState) (took : TookLines old (map deletion_of ds) middle) where
+      among : (d : Rest) → In d (ds ++ es) → In d rs
+      among d i = (filter_In is_dropped rs d (subst (In d) (sym front_of) i)).0
+
+      apart_both : Apart (ds ++ es)
+      apart_both = subst Apart front_of (apart_filter is_dropped rs apart)
+
+      stands_front : Stands o (deletions (map (λ r. r.number) ds)) (at (without_all ds (map cell_of rs)) middle)
+      stands_front = stand ds (map cell_of rs) old middle [] first unspent (apart_front ds es apart_both) (λ d i. held_all d (among d (In_append_left ds es d i))) (λ d i. long_all d (among d (In_append_left ds es d i))) took
+
+      pub lines_front : HasLines o (deletions (map (λ r. r.number) ds)) vars middle
+      lines_front = stands_front.lines
+
+      pub sound_front : LogSound F (J ++ deletions (map (λ r. r.number) ds))
+      sound_front = stands_front.sound
+
+      middle_unspent : middle.spent ≡ false
+      middle_unspent = took_spent (map deletion_of ds) old middle took ∙ unspent
+
+      -- the line of the next was not put
+      module _ (r : Rest) (others : List Rest) (rest_is : es ≡ r ∷ others) where
+        r_in : In r rs
+        r_in = among r (In_append_right ds es r (subst (In r) (sym rest_is) (inl refl)))
+
+        still : Contains (without_all ds (map cell_of rs)) (cell_of r)
+        still = to_without ds (map cell_of rs) r.number r.clause (held_all r r_in) (apart_next ds r others (subst (λ xs. Apart (ds ++ xs)) rest_is apart_both))
+
+        on_r : All (IsOn vars) r.clause
+        on_r = on_clause (at (map cell_of rs) old) (resumed_work F vars (map cell_of rs) us stack old J left.0) r.number r.clause (held_all r r_in)
+
+        abbrev w : WorkState
+        w = at (without_all ds (map cell_of rs)) middle
+
+        abbrev mine : List Entry
+        mine = deletions (map (λ r. r.number) ds)
+
+        pub lines_not_put : (new : LineState) (stop : LineStop) → WasPut middle new (deletion_of r) (Err stop) → HasLines o mine vars new
+        lines_not_put new ProofFault failed =
+            (stands_failed o mine w stands_front (ruler_deletes r.number) (deletion_of r)
+            (one_del o mine w stands_front r.number r.clause still (long_all r r_in) refl)
+            (valid_del o mine w stands_front r.number r.clause still (long_all r r_in) refl)
+            (fit_del o mine w stands_front r.number r.clause still (long_all r r_in) refl)
+            refl new middle_unspent on_r failed).lines
+        lines_not_put new Full full = subst (HasLines o mine vars) (sym full.state) lines_front
+        lines_not_put new Memory same = subst (HasLines o mine vars) (sym same) lines_front
+
+-- Why it stopped
+
+pub stopped_for : (old middle new : LineState) (x : Line) (stop : LineStop) → middle.faults ≡ old.faults → WasPut middle new x (Err stop) → HasOutputCause old new stop
+stopped_for old middle new x ProofFault same failed = subst (λ (n : ℕ). Rose n new.faults) same failed.rose
+stopped_for old middle new x Full same full = (ap (λ (s : LineState). s.entries) full.state ∙ full.full, ap (λ (s : LineState). s.faults) full.state ∙ same)
+stopped_for old middle new x Memory same is = ap (λ (s : LineState). s.faults) is ∙ same
+
+pub front_cause : (rs : List Rest) (old new : LineState) (stop : LineStop) → TookFront rs old new stop → HasOutputCause old new stop
+front_cause rs old new stop t =
+    let same = took_faults (map deletion_of t.front) old t.middle t.took in
+    elim t.cause as (λ _. HasOutputCause old new stop) [
+      | inl m ↦ subst (HasOutputCause old new) (sym m.0) (ap (λ (s : LineState). s.faults) m.1 ∙ same)
+      | inr n ↦ stopped_for old t.middle new (deletion_of n.0) stop same n.3
+    ]
+
+pub front_sound : (F : List (List Literal)) (vars : ℕ) (us : List Literal) (stack : List Fix) (old : LineState) (J : List Entry) (rs : List Rest) → AreLeftAfter F vars rs us stack old J → old.spent ≡ false
+    → (new : LineState) (stop : LineStop) (t : TookFront rs old new stop) → LogSound F (J ++ deletions (map (λ r. r.number) t.front))
+front_sound F vars us stack old J rs left unspent new stop t = sound_front F vars us stack old J rs left unspent t.front t.rest t.front_of t.middle t.took
+
+pub front_lines : (F : List (List Literal)) (vars : ℕ) (us : List Literal) (stack : List Fix) (old : LineState) (J : List Entry) (rs : List Rest) → AreLeftAfter F vars rs us stack old J → old.spent ≡ false
+    → (new : LineState) (stop : LineStop) (t : TookFront rs old new stop) → HasLines (record { formula = F; journal = J; output = old }) (deletions (map (λ r. r.number) t.front)) vars new
+front_lines F vars us stack old J rs left unspent new stop t = elim t.cause as (λ _. HasLines (record { formula = F; journal = J; output = old }) (deletions (map (λ r. r.number) t.front)) vars new) [
+  | inl m ↦ subst (HasLines (record { formula = F; journal = J; output = old }) (deletions (map (λ r. r.number) t.front)) vars) (sym m.1) (lines_front F vars us stack old J rs left unspent t.front t.rest t.front_of t.middle t.took)
+  | inr n ↦ lines_not_put F vars us stack old J rs left unspent t.front t.rest t.front_of t.middle t.took n.0 n.1 n.2 new stop n.3
+]

@@ -11,16 +11,16 @@ use Rattle.rup_model.specs.declared.journal.Entry.{Entry}
 use Rattle.rup_model.specs.Basics.{EachAfter}
 use Rattle.rup_model.specs.Journal.{IsFresh, LogSound}
 use Rattle.rup_model.specs.Opening.{Opening, is_rulers, IsNew, start_clauses}
-use Rattle.rup_model.specs.Windows.{begins_round, last_round, IsNewInRound, IsSpacedInRound}
+use Rattle.rup_model.specs.Windows.{begins_round, since_round, to_round, last_round, IsNewInRound, IsSpacedInRound}
 use Rattle.rup_model.proofs.Windowing.{last_none}
 use Rattle.rup_model.proofs.Sums.{below_none}
 use Rattle.share_core.specs.State.{opening_of, State}
 use Rattle.share_core.specs.Sound.{Sound}
 use Rattle.core_rounds.specs.InRounds.{learned_by, round_limit, IsOfRounds, IsFreshInRound, MayGoOn, IsDueInRounds}
 use Rattle.core_rounds.specs.Rounds.{RoundRun, left_by, written_in, start_for, beginning_of, IsRound, IsSpent, IsDue, AreRounds}
-use Rattle.core_rounds.proofs.Learned.{rulers_more, limit_some, limit_left}
+use Rattle.core_rounds.proofs.Learned.{rulers_more, round_more, limit_some, limit_left}
 use Rattle.core_rounds.proofs.Journals.{rulers_begin_none, rulers_fresh, rulers_new, rulers_spaced, rulers_due, rulers_of_rounds, count_alone, count_round, round_fresh, round_new, round_spaced, round_due, may_go_on}
-use Rattle.core_rounds.proofs.OneRound.{IsWithin, sound, alone, of_rings, fresh_and_spaced, log, journal_is, told, within, spent, sum}
+use Rattle.core_rounds.proofs.OneRound.{IsWithin, sound, alone, of_rings, fresh_and_spaced, log, journal_is, since, to, told, within, spent, sum}
 
 -- what is learned up to a round's beginning, and in it
 pub sum_after : {rings depth limit : ℕ} {F : List (List Literal)} {x : RoundRun} (before rest : List Entry) → IsRound rings depth limit F (before ++ rest) x → All (λ e. is_rulers e ≡ true) rest
@@ -101,6 +101,14 @@ module _ (rings depth : ℕ) (every : Option ℕ) (most : ℕ) (F : List (List L
       (round_due rings every most (r.0 ++ r.1) (start_for x.opening) (written_in x) (alone r.5)
       (rulers_due rings every most r.0 r.1 r.3 (rounds_due xs r.0 r.2))
       (goes_on xs r.0 r.1 r.2 r.3 r.4))
+
+  -- in the last round as much is learned as might be, if it is spent
+  pub rounds_spent : (x : RoundRun) (xs : List RoundRun) (J : List Entry) → Rounds (x ∷ xs) J → IsSpent x → learned_by rings (since_round J) ≡ round_limit every most (learned_by rings (to_round J))
+  rounds_spent x xs J r is_spent =
+      let own : learned_by rings (since_round J) ≡ learned_by rings (written_in x) = ap (λ (L : List Entry). learned_by rings (since_round L)) r.6 ∙ ap (learned_by rings) (since r.5) in
+      let old : learned_by rings (to_round J) ≡ learned_by rings r.0 =
+      ap (λ (L : List Entry). learned_by rings (to_round L)) r.6 ∙ ap (learned_by rings) (to r.5 ∙ r.5.journal_is) ∙ round_more rings (r.0 ++ r.1) (start_for x.opening) ∙ rulers_more rings r.0 r.1 r.3 in
+      own ∙ spent r.5 is_spent ∙ ap (round_limit every most) (sym old)
 
   -- How much is learned
 

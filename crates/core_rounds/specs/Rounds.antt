@@ -1,11 +1,12 @@
 -- Rounds of the rings, one after another, and the journal that they leave.
-use Rattle.std.specs.Prelude.{◌≡◌, ℕ, ◌<◌, true, List, [], ◌∷◌, ◌++◌, map, fold, Option, ⊤}
+use Rattle.std.specs.Prelude.{◌≡◌, ℕ, ◌<◌, true, List, [], ◌∷◌, ◌++◌, map, fold, Contains, Option, IfSome, ⊤}
 use Rattle.std.specs.List.{All}
 use Rattle.sat_words.specs.Literal.{Literal}
 use Rattle.sat_words.specs.Clause.{has}
 use Rattle.rup_model.specs.declared.journal.Round.{Round as RoundStart}
 use Rattle.rup_model.specs.declared.journal.Entry.{Entry}
 use Rattle.rup_model.specs.declared.journal.Entry.TheVariants.{Round}
+use Rattle.rup_model.specs.Journal.{deletion}
 use Rattle.rup_model.specs.Opening.{is_rulers, program_opening}
 use Rattle.share_core.specs.declared.event.Event.{Event}
 use Rattle.share_core.specs.declared.part.CoreOpening.{CoreOpening}
@@ -37,8 +38,12 @@ start_for o = record { starts = map (λ s. s.number) o.starts; units = o.units }
 abbrev pub beginning_of : CoreOpening → Entry
 beginning_of o = Round (start_for o)
 
+-- the entry does not delete one of the start clauses
+abbrev pub KeepsStarts : CoreOpening → Entry → Type 0
+KeepsStarts o e = IfSome (deletion e) (λ n. Contains (start_for o).starts n → ⊥)
+
 -- so many rings, with slots of this depth and this limit, opened as the program does after the journal and the entry that
--- begins the round, and each of their steps was enabled
+-- begins the round; each of their steps was enabled, and no entry that they wrote deletes a start clause
 pub record IsRound (rings depth limit : ℕ) (F : List (List Literal)) (before : List Entry) (x : RoundRun) : Type 0 where
   pub rings_are : x.opening.rings ≡ rings
   pub depth_is : x.opening.depth ≡ depth
@@ -49,6 +54,7 @@ pub record IsRound (rings depth limit : ℕ) (F : List (List Literal)) (before :
   pub units : (l : Literal) → has x.opening.units l ≡ has (program_opening F before).units l
   pub opens : IsCoreOpening x.opening
   pub enabled : AllEnabled (opened x.opening) x.events
+  pub keeps : All (KeepsStarts x.opening) (written_in x)
 
 -- the rings learned all that they might in the round
 abbrev pub IsSpent : RoundRun → Type 0

@@ -1351,3 +1351,22 @@ fn rounds_of_one_lemma(rt: HostRuntime) -> Result<(), Fail> {
     check_row(&rt, row, 65536)?;
     check_row(&rt, refuted, 65536)
 }
+
+/// On 28 variables. Of rounds of one lemma the third finds a model, and the ruler puts entries onto the stack before each of the three.
+const THREE_RUNS: &[u8] =
+    b"p cnf 28 55\n-13 16 0\n-10 -25 0\n2 15 0\n5 19 0\n-2 21 0\n-26 -11 0\n-13 -28 3 0\n15 12 0\n-13 -6 0\n-15 1 0\n6 -2 0\n20 3 0\n27 2 0\n-10 24 0\n-3 10 -14 0\n11 -23 0\n21 -15 0\n-18 -27 0\n21 -22 0\n4 -8 0\n-12 9 0\n9 -10 0\n27 -24 0\n5 -18 0\n6 7 21 0\n-20 -11 0\n12 7 0\n-19 -23 0\n-13 24 0\n6 -17 8 0\n6 3 -1 0\n28 6 -9 0\n23 -4 0\n20 -8 0\n-12 -4 0\n-28 2 0\n-28 -27 0\n10 -19 0\n22 25 0\n14 12 0\n17 -21 0\n23 -13 0\n8 -16 1 0\n-5 -14 -7 0\n-21 3 0\n5 9 0\n6 -4 0\n27 14 0\n26 14 -13 0\n-1 19 0\n-13 19 0\n-27 4 25 0\n-25 11 -13 0\n-15 26 18 0\n28 -25 27 0\n";
+
+/// A model of the third round is mended by what the ruler put onto the stack in each of its three runs. If the entries of any one
+/// run were left out, the model that is printed would be another, and no model of the formula.
+#[test]
+fn a_model_mended_over_three_rounds(rt: HostRuntime) -> Result<(), Fail> {
+    let row = Row {
+        words: &["--threads", "1", "--round", "1"],
+        input: THREE_RUNS,
+        out: b"s SATISFIABLE\nv -1 2 3 -4 5 6 -7 -8 9 -10 -11 12 -13 -14 -15 -16 17 -18 -19 -20 21 -22 -23\nv -24 25 -26 27 -28 0\n",
+        compares_proof: false,
+        learned: &[2],
+        ..PLAIN
+    };
+    check_row(&rt, row, 65536)
+}

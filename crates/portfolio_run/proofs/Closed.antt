@@ -145,9 +145,9 @@ module _ {S : Type 0} {d : Ghosts S} (written flushed target : S → Option (Lis
     abbrev J : List Entry
     J = s.core.journal
 
-    passed : HavePassed plan F vars tally done (run s) was.runs J
+    passed : HavePassed plan F vars stack tally done (run s) was.runs J
     passed =
-        subst (λ (y : ℕ × (List Counts × ℕ)). HavePassed plan F y.0 y.1.0 y.1.1 (run s) was.runs J) (λ i. (sym h.vars_is i, (sym w.tally_is i, sym w.done_is i)))
+        subst (λ (y : (ℕ × List Fix) × (List Counts × ℕ)). HavePassed plan F y.0.0 y.0.1 y.1.0 y.1.1 (run s) was.runs J) (λ i. ((sym h.vars_is i, sym h.stack_is i), (sym w.tally_is i, sym w.done_is i)))
         (settled_passed written flushed target faults sink plan F on rings few_rings vars stack w.before w.done_before w.limit t p w.counts Unknown h s refl)
 
     core : Sound s.core
@@ -192,7 +192,7 @@ module _ {S : Type 0} {d : Ghosts S} (written flushed target : S → Option (Lis
       still whole = (book_records.log.whole (stands.faulty ∙ whole)).quiet ∙ book_records.faults_are
 
       rested : IsResting plan F tally None J
-      rested = rests_still plan F vars tally done (run s) was.runs J passed more
+      rested = rests_still plan F vars stack tally done (run s) was.runs J passed more
 
       -- Nothing was told, for want of memory
 
@@ -210,7 +210,7 @@ module _ {S : Type 0} {d : Ghosts S} (written flushed target : S → Option (Lis
             through = r.through;
             faults_fit = record {
               rose = λ e. absurd (let k = some_same STOP_MEMORY STOP_PROOF e in omega arith);
-              calm = λ ne. dite (ℕ_discrete plan.threads 1) (λ one. inl (still (calm_alone fault tells one))) (λ other. inr (two_or_more plan.threads rings other, through_still plan F vars tally done (run s) was.runs J passed more));
+              calm = λ ne. dite (ℕ_discrete plan.threads 1) (λ one. inl (still (calm_alone fault tells one))) (λ other. inr (two_or_more plan.threads rings other, through_still plan F vars stack tally done (run s) was.runs J passed more));
             };
           }
 
@@ -333,25 +333,25 @@ module _ {S : Type 0} {d : Ghosts S} (written flushed target : S → Option (Lis
           early stop is e =
               let same : e.stop ≡ stop = (let both : Err e.stop ≡ Err stop = sym e.is ∙ is in cc both) in
               subst (λ (x : LineStop). ComesTo plan F (stopped_answer x) tally before now) same
-              (stopped_early plan F vars tally done (run s) was.runs J passed more held units stack dropped before old filled_there left_after now result e)
+              (stopped_early plan F vars stack tally done (run s) was.runs J passed more held units dropped before old filled_there left_after now result e)
 
           pub over_stopped : (stop : LineStop) → result ≡ Err stop → HasReached written flushed target faults sink plan F (stopped_answer stop) tally new
           over_stopped stop is = book_reached (stopped_answer stop) (by went)
             where
               by : WentOn F.clauses (schedule_of plan) vars held units stack old now result → ComesTo plan F (stopped_answer stop) tally before now
               by (inl e) = early stop is e
-              by (inr e) = stopped_late plan F vars tally done (run s) was.runs J passed more held units stack dropped before old filled_there left_after now result e stop is
+              by (inr e) = stopped_late plan F vars stack tally done (run s) was.runs J passed more held units dropped before old filled_there left_after now result e stop is
 
           pub over_refuted : result ≡ Ok NoModel → HasReached written flushed target faults sink plan F Unsat tally new
           over_refuted is = book_reached Unsat (by went)
             where
               by : WentOn F.clauses (schedule_of plan) vars held units stack old now result → ComesTo plan F Unsat tally before now
               by (inl e) = (let clash : Ok NoModel ≡ Err e.stop = sym is ∙ e.is in absurd (cc clash))
-              by (inr e) = refuted plan F vars tally done (run s) was.runs J passed more held units stack dropped before old filled_there left_after now result e is
+              by (inr e) = refuted plan F vars stack tally done (run s) was.runs J passed more held units dropped before old filled_there left_after now result e is
 
           pub paused_again : (l : Simplified) → result ≡ Ok (LeftOver l) → IsPaused (pause_of written flushed target faults sink plan F l tally done new)
           paused_again l is = by went
             where
               by : WentOn F.clauses (schedule_of plan) vars held units stack old now result → IsPaused (pause_of written flushed target faults sink plan F l tally done new)
               by (inl e) = (let clash : Ok (LeftOver l) ≡ Err e.stop = sym is ∙ e.is in absurd (cc clash))
-              by (inr e) = paused plan F vars tally done (run s) was.runs J passed more held units stack dropped before old filled_there left_after now result e l is (lifts_there e.middle)
+              by (inr e) = paused plan F vars stack tally done (run s) was.runs J passed more held units dropped before old filled_there left_after now result e l is (lifts_there e.middle)

@@ -18,39 +18,31 @@ use Rattle.sat_words.specs.Truth.{clause_true}
 use Rattle.sat_words.proofs.Insertion.{clause_of_in_order, InOrder-clause_of}
 use Rattle.rup_model.specs.declared.journal.TheConstants.{RULER_RING}
 use Rattle.rup_model.specs.declared.journal.Entry.{Entry}
-use Rattle.rup_model.specs.declared.journal.Entry.TheVariants.{Add, Del, Reduce, Round}
-use Rattle.rup_model.specs.Journal.{ring_of, Book, formula_book, spelled, book_after, book, added, is_told, LogSound}
+use Rattle.rup_model.specs.declared.journal.Entry.TheVariants.{Round}
+use Rattle.rup_model.specs.Journal.{ring_of, Book, formula_book, book_after, book, added, is_told, LogSound}
 use Rattle.rup_model.specs.Opening.{Start, start_at}
 use Rattle.rup_model.proofs.Additions.{added-append}
 use Rattle.rup_model.proofs.Lists.{In, all_In, In_all, In_append, In_append_left, In_append_right, In_map, map_In, In_has, Contains_In, In_Contains}
 use Rattle.rup_model.proofs.Numbers.{book_last}
 use Rattle.rup_model.proofs.Respelling.{respelled_from}
-use Rattle.rup_model.proofs.Sums.{at_put, put_else}
 use Rattle.rup_model.proofs.Units.{long_two}
 use Rattle.model_stack.specs.Extend.{Lifts}
 use Rattle.drat_text.specs.LineState.{LineState}
 use Rattle.share_core.specs.declared.part.CoreOpening.{CoreOpening}
-use Rattle.share_core.specs.declared.part.Part.{Part}
 use Rattle.share_core.specs.declared.stored.Cell.{Cell}
 use Rattle.share_core.specs.declared.stored.ClauseAt.{ClauseAt}
 use Rattle.share_core.specs.State.{State, opened}
-use Rattle.share_core.specs.Sound.{Sound, IsCopy, AllInCells}
+use Rattle.share_core.specs.Sound.{Sound, AllInCells}
 use Rattle.share_core.proofs.Others.{run_units}
 use Rattle.share_rule.specs.declared.Layout.{Layout}
 use Rattle.share_rule.specs.declared.rests.Rest.{Rest}
-use Rattle.share_rule.specs.declared.view.GlueAt.{GlueAt}
 use Rattle.share_rule.specs.declared.view.View.{View}
 use Rattle.share_rule.specs.FirstWords.{starts_at, begun_with}
 use Rattle.share_rule.specs.Layout.{first_cell}
 use Rattle.share_rule.specs.Passes.{IsWhole}
 use Rattle.share_rule.specs.Rests.{rest_of, IsRest, AreRests}
-use Rattle.share_rule.specs.Seen.{Seen, IsPart}
-use Rattle.share_rule.specs.Views.{glue_in, start_glues}
-use Rattle.share_rule.proofs.Lists.{start_glue}
+use Rattle.share_rule.specs.Seen.{Seen}
 use Rattle.clause_cell.specs.Packing.{words_for}
-use Rattle.ring_port.specs.PortState.{PortState, Holding, HoldsStart, held_at}
-use Rattle.ring_port.proofs.Dropping.{find_In}
-use Rattle.ring_pass.specs.RingState.{holding_of, port_with}
 use Rattle.simp_base.specs.WorkState.{HaveOwnNumbers, lists, unit_clauses, known, resumed}
 use Rattle.simp_base.specs.Parts.{takes_part}
 use Rattle.simp_base.specs.Resumed.{Resumes}
@@ -73,6 +65,7 @@ use Rattle.portfolio_run.specs.Reached.{RanAt}
 use Rattle.portfolio_run.specs.Resumed.{is_dropped, cell_of, dropped_of, kept_of}
 use Rattle.portfolio_run.specs.Rulings.{AreDropped}
 use Rattle.portfolio_run.specs.Seats.{IsSettled}
+use Rattle.portfolio_run.proofs.Keeping.{were_alive, start_cell}
 use Rattle.portfolio_run.proofs.Mending.{placed_numbers}
 use Rattle.portfolio_run.proofs.Settled.{sound, since, units_listed}
 
@@ -90,24 +83,6 @@ below_or (suc n) (suc m) = ⊎_elim (λ (lt : n < m). inl (omega arith)) (λ (le
 In_range : (a k n : ℕ) → a ≤ n → n < a + k → In n (range_with_len a k)
 In_range a zero n low high = absurd (omega arith)
 In_range a (suc k) n low high = ⊎_elim (λ (lt : a < n). inr (In_range (a + 1) k n (omega arith) (omega arith))) (λ (le : n ≤ a). inl (omega arith)) (below_or a n)
-
--- a ring gives no number again
-was_alive : (b : Book) (e : Entry) (n : ℕ) (c : List Literal) → ring_of e < RULER_RING → n < b.next → (book_after b e).clause n ≡ Some c → b.clause n ≡ Some c
-was_alive b (Add x) n c ring lt is = sym (put_else b.clause b.next (Some (spelled x)) n (λ e. omega arith)) ∙ is
-was_alive b (Del r m) n c ring lt is = at_put b.clause m None (λ (o : Option (List Literal)). o ≡ Some c → b.clause n ≡ Some c) n (λ e none. absurd (let no : ⊥ = cc in no)) (λ ne there. there) is
-was_alive b (Reduce r) n c ring lt is = is
-was_alive b (Round x) n c ring lt is = absurd (omega arith)
-
-was_given : (b : Book) (e : Entry) (n : ℕ) → n < b.next → n < (book_after b e).next
-was_given b (Add x) n lt = omega arith
-was_given b (Del r m) n lt = lt
-was_given b (Reduce r) n lt = lt
-was_given b (Round x) n lt = lt
-
-were_alive : (b : Book) (K : List Entry) (n : ℕ) (c : List Literal) → All (λ e. ring_of e < RULER_RING) K → n < b.next → (fold book_after b K).clause n ≡ Some c → b.clause n ≡ Some c
-were_alive b [] n c rings lt is = is
-were_alive b (e ∷ K) n c rings lt is =
-    was_alive b e n c (rings 0 e (omega arith)) lt (were_alive (book_after b e) K n c (λ k d less. rings (suc k) d (omega arith)) (was_given b e n lt) is)
 
 -- clauses in order of number have numbers of their own
 own_numbers : (ps : List Pair) → IsStrictlySortedBy nat_cmp (map (λ (p : Pair). p.0) ps) → HaveOwnNumbers ps
@@ -193,25 +168,9 @@ told_parts F J K l t =
     ap (λ (G : List (List Literal)). list_any p (F ++ G)) (added-append J K) ∙ ap (list_any p) (sym (append_assoc F (added J) (added K))) ∙ list_any-append p (F ++ added J) (added K) in
     or_cases (is_told F J l) (list_any p (added K)) (sym e ∙ t)
 
--- Glues
-
 -- nothing is less than 0
 none_less : (n : ℕ) → nat_lt n 0 ≡ false
 none_less n = grind (arith, nat_tests)
-
-found_held : (s : PortState) (a : ℕ) (k : Holding) → held_at s a ≡ Some k → In k s.held
-unfolding held_at
-found_held s a k e = find_In (λ x. x.address == a) s.held k e
-
--- a port that holds its start clauses has them among what its part holds, with glue 0
-held_start : (port : PortState) (gs : List GlueAt) (hs ss : List ClauseAt) → port.held ≡ map (holding_of gs) hs → port.start ≡ map (holding_of (start_glues ss)) ss → HoldsStart port → (x : ClauseAt) → In x ss
-    → (g : ClauseAt) × In g hs × (glue_in g.number gs ≡ 0) × (g.number ≡ x.number) × (g.lits ≡ x.lits)
-held_start port gs hs ss held_is start_is holds x i =
-    let k : Holding = holding_of (start_glues ss) x in
-    let first : In k port.start = subst (λ (ks : List Holding). In k ks) (sym start_is) (In_map (holding_of (start_glues ss)) ss x i) in
-    let there : In k port.held = found_held port x.address k (All_In (λ (y : Holding). held_at port y.address ≡ Some y) port.start k holds first) in
-    let g = map_In (holding_of gs) hs k (subst (λ (ks : List Holding). In k ks) held_is there) in
-    (g.0, g.1, ap (λ (y : Holding). y.glue) g.2 ∙ start_glue x.number ss, ap (λ (y : Holding). y.number) g.2, ap (λ (y : Holding). y.lits) g.2)
 
 -- The table
 
@@ -325,33 +284,19 @@ module _ (F : FormulaData) (left : Simplified) (l : Layout) (J0 : List Entry) (h
 
   -- a ring ran to its end, and it held the start clauses to the last
   module _ (v : View) (home : List ℕ) (plan : Plan) (r : ℕ) (end : End) (counts : Counts) (ran : RanAt v home plan w r end counts) (same_opening : w.opening ≡ v.opening) (below : r < s.core.opening.rings) where
-    abbrev port : PortState
-    port = port_with (record v { stop = ran.seen; looks = ran.ran.looks }) ran.part ran.ran.own
-
-    is_part : IsPart w.layout s.core s.glue ran.part
-    is_part = s.parts r ran.part ran.there
-
-    part_is : ran.part.core ≡ s.core.part r
-    part_is = is_part.part ∙ ap s.core.part ran.ring_is
-
-    part_copy : (g : ClauseAt) → In g ran.part.core.held → IsCopy s.core.cell g
-    part_copy g i = All_In (IsCopy s.core.cell) (s.core.part r).held g (core.copies.held r below) (subst (λ (q : Part). In g q.held) part_is i)
-
-    starts_are : v.opening.starts ≡ starts_at (first_cell l) left.start.items
-    starts_are = ap (λ (o : CoreOpening). o.starts) (sym same_opening ∙ s.opening ∙ opening_is)
+    starts_are : s.core.opening.starts ≡ starts_at (first_cell l) left.start.items
+    starts_are = ap (λ (o : CoreOpening). o.starts) opening_is
 
     -- the cell of a start clause, which has glue 0
-    start_cell : (p : Pair) → In p left.start.items → (a : ℕ) × (x : Cell) × (s.core.cell a ≡ Some x) × (s.glue x.number ≡ 0) × (x.number ≡ p.0) × (x.lits ≡ p.1)
-    start_cell p i =
+    cell_for : (p : Pair) → In p left.start.items → (a : ℕ) × (x : Cell) × (s.core.cell a ≡ Some x) × (s.glue x.number ≡ 0) × (x.number ≡ p.0) × (x.lits ≡ p.1)
+    cell_for p i =
         let c = placed_In (first_cell l) left.start.items p i in
-        let g = held_start port ran.part.glues ran.part.core.held v.opening.starts refl refl ran.ran.ran.held c.0 (subst (λ (ss : List ClauseAt). In c.0 ss) (sym starts_are) c.1) in
-        let copy = part_copy g.0 g.1 in
-        let glue : s.glue g.0.number ≡ 0 = sym (All_In (λ (x : ClauseAt). glue_in x.number ran.part.glues ≡ s.glue x.number) ran.part.core.held g.0 is_part.glues g.1) ∙ g.2 in
-        (g.0.address, copy.0, copy.1, ap s.glue copy.2 ∙ glue, copy.2 ∙ g.3 ∙ c.2, copy.3 ∙ g.4 ∙ c.3)
+        let t = start_cell w s v home plan r end counts ran same_opening below c.0 (subst (λ (ss : List ClauseAt). In c.0 ss) (sym starts_are) c.1) in
+        (t.0, t.1, t.2, t.3, t.4 ∙ c.2, t.5 ∙ c.3)
 
     kept_start : (p : Pair) → In p left.start.items → In p (kept_of rests)
     kept_start p i =
-        let t = start_cell p i in
+        let t = cell_for p i in
         let x : Rest = rest_of s.glue t.1 in
         let stays : not (is_dropped x) ≡ true = ap not (ap (nat_lt KEPT_GLUE) t.3 ∙ none_less KEPT_GLUE) in
         let j : In (cell_of x) (kept_of rests) = In_map cell_of (filter (λ (q : Rest). not (is_dropped q)) rests) x (In_filter (λ (q : Rest). not (is_dropped q)) rests x (told_at t.0 t.1 t.2) stays) in
@@ -367,7 +312,7 @@ module _ (F : FormulaData) (left : Simplified) (l : Layout) (J0 : List Entry) (h
         let f = filter_In is_dropped rests d.0 d.1 in
         let y = cell_at d.0 f.0 in
         let q = map_In (λ (p : Pair). p.0) left.start.items n (Contains_In (map (λ (p : Pair). p.0) left.start.items) n there) in
-        let t = start_cell q.0 q.1 in
+        let t = cell_for q.0 q.1 in
         let number : y.1.number ≡ t.1.number = sym (ap (λ (x : Rest). x.number) y.3) ∙ d.2 ∙ sym q.2 ∙ sym t.4 in
         let glue : d.0.glue ≡ 0 = ap (λ (x : Rest). x.glue) y.3 ∙ ap s.glue number ∙ t.3 in
         true≢false (sym f.1 ∙ ap (nat_lt KEPT_GLUE) glue ∙ none_less KEPT_GLUE))

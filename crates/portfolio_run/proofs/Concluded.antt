@@ -117,7 +117,7 @@ module _ {S : Type 0} {d : Ghosts S} (written flushed target : S → Option (Lis
     -- What the rings counted
 
     -- if all rings were spent the round is passed
-    pub passed_there : (h : HasRunTo t v home plan F.vars left.stack p counts answer) → All (λ (e : End × Counts). e.0 ≡ Spent) h.ends → HavePassed plan F left.vars (add_tallies counts before) (done + limit) (run s) was.runs s.core.journal
+    pub passed_there : (h : HasRunTo t v home plan F.vars left.stack p counts answer) → All (λ (e : End × Counts). e.0 ≡ Spent) h.ends → HavePassed plan F left.vars left.stack (add_tallies counts before) (done + limit) (run s) was.runs s.core.journal
     passed_there h spent = passed pause was limit l origin K p.me.0 s g home h.ends (h.run.many ∙ rings_are) h.run.ran counts h.tally_is spent
 
     -- each ring that ran counted little

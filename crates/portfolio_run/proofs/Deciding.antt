@@ -22,9 +22,9 @@ use Rattle.share_core.specs.Sound.{Sound}
 use Rattle.share_core.proofs.Leaving.{left_sound}
 use Rattle.share_core.proofs.Tickets.{all_used, few_used}
 use Rattle.share_core.proofs.Counting.{none_some, some_same}
-use Rattle.core_rounds.specs.Rounds.{written_in}
+use Rattle.core_rounds.specs.Rounds.{KeepsStarts, IsSpent, written_in}
 use Rattle.core_rounds.specs.InRounds.{learned_by}
-use Rattle.core_rounds.proofs.AllRounds.{rounds_due}
+use Rattle.core_rounds.proofs.AllRounds.{rounds_due, rounds_spent}
 use Rattle.core_rounds.proofs.Learned.{limit_left}
 use Rattle.rup_model.proofs.Sums.{below_same, below_at, below_none}
 use Rattle.share_rule.specs.declared.Layout.{Layout}
@@ -55,18 +55,19 @@ use Rattle.portfolio_run.specs.Pauses.{Pause, IsPaused, IsSmall}
 use Rattle.portfolio_run.specs.Reached.{RanAt}
 use Rattle.portfolio_run.specs.Room.{layout_of, laid_out}
 use Rattle.portfolio_run.specs.Ruled.{schedule_of, IsRuledThrough}
-use Rattle.portfolio_run.specs.Rulings.{Ruling, HasRuledBetween, vars_after}
+use Rattle.portfolio_run.specs.Rulings.{Ruling, HasRuledBetween, work_after}
 use Rattle.portfolio_run.specs.Searched.{answer_of, AllSpent, WasWon}
 use Rattle.portfolio_run.specs.Solved.{Holds, IsUnsettled, kind_of}
 use Rattle.portfolio_run.proofs.Gathered.{GoesOn, began_with, journal_at, begun_then, through_then}
 use Rattle.portfolio_run.proofs.InRounds.{HasWritten, IsAlike}
 use Rattle.portfolio_run.proofs.Interleaving.{own, none_of, learned_own}
+use Rattle.portfolio_run.proofs.Keeping.{starts_kept}
 use Rattle.portfolio_run.proofs.Mending.{alike, model, placed_numbered}
 use Rattle.portfolio_run.proofs.Opens.{begins_well, went_on, still_due}
 use Rattle.portfolio_run.proofs.Passed.{HavePassed}
 use Rattle.portfolio_run.proofs.Placing.{placed_own}
 use Rattle.portfolio_run.proofs.RingsJournal.{AreTogether, stands, journal_stands, unrefuted as together_unrefuted, learned_all, unsettled, refutation}
-use Rattle.portfolio_run.proofs.RoundOver.{run, left_is, written_is, rings_there, limit_there, learned_then, rounds, ruled_over}
+use Rattle.portfolio_run.proofs.RoundOver.{run, left_is, core_journal, written_is, rings_there, limit_there, learned_then, rounds, ruled_over}
 use Rattle.portfolio_run.proofs.RingsRun.{starts_from, port, has_written, tallied, ended_is, cause, wanted, faulty, gone, never_gone, unrefuted, calm}
 use Rattle.portfolio_run.proofs.Spelling.{wider}
 use Rattle.portfolio_run.proofs.Summing.{added_many, all_small, small_of}
@@ -78,9 +79,9 @@ pub record IsDecided (plan : Plan) (F : FormulaData) (answer : Answer) (tally : 
   pub ruled : IsRuledThrough F (schedule_of plan) J
   pub held : IsHeld plan.threads plan.slots plan.round plan.conflicts F.clauses J tally
   pub rulings : List Ruling
-  pub again : HasRuledBetween (schedule_of plan) ruled.ruled.work.vars held rulings
+  pub again : HasRuledBetween (schedule_of plan) ruled.ruled.work held rulings
   pub stop : HasStop held (kind_of answer)
-  pub holds : Holds plan (vars_after ruled.ruled.work.vars rulings) F J held answer
+  pub holds : Holds plan (work_after ruled.ruled.work rulings).vars F J held answer
   pub rose : answer ≡ ProofFault → Failed
   pub calm : plan.threads ≡ 1 → kind_of answer ≢ Some STOP_PROOF → Calm
 
@@ -110,7 +111,7 @@ module _ (p : Pause) (was : IsPaused p) (limit : ℕ) (l : Layout) (origin : Boo
 
   -- the variables of the table
   abbrev vars : ℕ
-  vars = vars_after was.first.work.vars was.rulings
+  vars = (work_after was.first.work was.rulings).vars
 
   -- the table as it was opened
   abbrev v : View
@@ -179,7 +180,7 @@ module _ (p : Pause) (was : IsPaused p) (limit : ℕ) (l : Layout) (origin : Boo
         ruled = through_then p was K;
         held = held;
         rulings = was.rulings;
-        again = went_on F.clauses (schedule_of plan) was.first.work.vars was.runs was.mine (Some beginning) was.rulings was.again;
+        again = went_on F.clauses (schedule_of plan) was.first.work was.runs was.mine (Some beginning) was.rulings was.again;
         stop = (λ e. absurd (let k = some_same STOP_MEMORY STOP_SAT e in omega arith), λ e. none_some STOP_MEMORY (sym e));
         holds = unsettled wide J0 beginning K threads o t plan.slots plan.round plan.conflicts tally held 0 some_ring never (ap (λ (I : List Entry). list_any is_empty (added I)) none_there);
         rose = λ e. cc e;
@@ -289,6 +290,13 @@ module _ (p : Pause) (was : IsPaused p) (limit : ℕ) (l : Layout) (origin : Boo
         ∙ all_used s.core.opening s.core.drawn s.core.part core_sound.tickets core_sound.opens.some_ring (λ r lt. gone_at r (subst (λ (n : ℕ). r < n) (rings_there p was limit l K w s g) lt))
         ∙ limit_there p was limit l K w s g
 
+    -- none of the rings deleted a start clause, since the first held them to the last
+    keeps : All (KeepsStarts s.core.opening) K
+    keeps =
+        let first : 0 < plan.threads = let h = g.some_ring in omega (arith, h) in
+        starts_kept w s v home plan 0 (end_at 0) (counts_at 0) (ran_at 0 first) (s.opening ∙ g.opening_is) (subst (λ (n : ℕ). 0 < n) (sym (rings_there p was limit l K w s g)) first)
+        K (λ k d lt. (let low = g.of_rings k d lt in let few = g.few_rings in omega (arith, low, few))) (core_journal p was limit l K w s g)
+
     abbrev tally : List Counts
     tally = add_tallies counts p.tally
 
@@ -299,7 +307,7 @@ module _ (p : Pause) (was : IsPaused p) (limit : ℕ) (l : Layout) (origin : Boo
     ran_within = record {
       last = run s;
       before = was.runs;
-      rounds = rounds p was limit l K w s g;
+      rounds = rounds p was limit l K w s g keeps;
       within = within;
       counts = counts ∷ was.counts;
       tallied = tallied_all;
@@ -347,12 +355,15 @@ module _ (p : Pause) (was : IsPaused p) (limit : ℕ) (l : Layout) (origin : Boo
       pub learned_sum : learned_by plan.threads J ≡ p.done + limit
       learned_sum = learned_then p was limit l K w s g ∙ ap (λ (n : ℕ). p.done + n) learned_limit
 
+      spent_round : IsSpent (run s)
+      spent_round = ap (learned_by s.core.opening.rings) (written_is p was limit l K w s g) ∙ ap (λ (n : ℕ). learned_by n K) (rings_there p was limit l K w s g) ∙ learned_limit ∙ sym (limit_there p was limit l K w s g)
+
       -- the round is passed
-      pub passed : HavePassed plan F left.vars tally (p.done + limit) (run s) was.runs s.core.journal
-      passed = subst (HavePassed plan F left.vars tally (p.done + limit) (run s) was.runs) (sym g.journal_is) (record {
+      pub passed : HavePassed plan F left.vars left.stack tally (p.done + limit) (run s) was.runs s.core.journal
+      passed = subst (HavePassed plan F left.vars left.stack tally (p.done + limit) (run s) was.runs) (sym g.journal_is) (record {
         some_ring = g.some_ring;
-        rounds = rounds p was limit l K w s g;
-        spent = ap (learned_by s.core.opening.rings) (written_is p was limit l K w s g) ∙ ap (λ (n : ℕ). learned_by n K) (rings_there p was limit l K w s g) ∙ learned_limit ∙ sym (limit_there p was limit l K w s g);
+        rounds = rounds p was limit l K w s g keeps;
+        spent = spent_round;
         done_is = sym learned_sum;
         within = subst (λ (n : ℕ). n ≤ plan.conflicts) learned_sum within;
         counts = counts ∷ was.counts;
@@ -364,6 +375,7 @@ module _ (p : Pause) (was : IsPaused p) (limit : ℕ) (l : Layout) (origin : Boo
         rulings = was.rulings;
         ruled = ruled_over p was limit l K w s g;
         vars_are = was.vars_are;
+        stack_is = was.stack_is;
         more = was.more;
         few = was.few;
         on = g.on;
@@ -380,7 +392,8 @@ module _ (p : Pause) (was : IsPaused p) (limit : ℕ) (l : Layout) (origin : Boo
         (ap (option_map (λ (x : Stop). x.kind)) (unstopped (λ r lt. h.each r none_ended (among r lt)) s.core.stop refl) ∙ ap kind_of (sym h.is))
         (subst (Holds plan vars F J (inr ran_within)) (sym h.is)
         (learned_all wide J0 beginning K plan.threads (starts_from v) t plan.round plan.conflicts (learned_sum h.each ∙ last)
-        (rounds_due plan.threads plan.slots plan.round plan.conflicts F.clauses (run s ∷ was.runs) J (rounds p was limit l K w s g)) (going_at h.each)))
+        (rounds_spent plan.threads plan.slots plan.round plan.conflicts F.clauses (run s) was.runs J (rounds p was limit l K w s g keeps) (spent_round h.each))
+        (rounds_due plan.threads plan.slots plan.round plan.conflicts F.clauses (run s ∷ was.runs) J (rounds p was limit l K w s g keeps)) (going_at h.each)))
         (λ e. (let clash : Unknown ≡ ProofFault = sym h.is ∙ e in absurd (cc clash)))
         (λ threads ne. let low : 0 < plan.threads = omega (arith, threads) in calm_at 0 low threads long fault tells (intact_at h.each 0 low).usable)
 

@@ -29,7 +29,7 @@ use Rattle.ruler_simp.specs.declared.ruling.Outcome.TheVariants.{Simplified as L
 use Rattle.ruler_simp.specs.declared.ruling.Simplified.{Simplified}
 use Rattle.ruler_simp.specs.Again.{ResumesAs, round_start, IsSimplifiedAgain, IsAnswerAgain}
 use Rattle.ruler_simp.specs.Left.{left_clauses}
-use Rattle.ruler_simp.specs.Ruled.{IsSound, run_of, HasVars}
+use Rattle.ruler_simp.specs.Ruled.{IsSound, run_of, HasVars, HasStack}
 use Rattle.core_rounds.specs.Rounds.{RoundRun}
 use Rattle.ring_run.specs.declared.job.Counts.{Counts}
 use Rattle.portfolio_run.specs.declared.answer.Answer.{Answer}
@@ -40,7 +40,7 @@ use Rattle.portfolio_run.specs.Pauses.{StandsInRounds, IsLeft, IsPaused}
 use Rattle.portfolio_run.specs.Reached.{stopped_answer}
 use Rattle.portfolio_run.specs.Resumed.{dropped_of, kept_of, AreLeftAfter, WasStopped, HasWorked}
 use Rattle.portfolio_run.specs.Ruled.{schedule_of}
-use Rattle.portfolio_run.specs.Rulings.{Ruling, deletions, vars_after, AreDropped, IsRuling}
+use Rattle.portfolio_run.specs.Rulings.{Ruling, deletions, work_after, AreDropped, IsRuling}
 use Rattle.portfolio_run.specs.Solved.{IsReached}
 use Rattle.portfolio_run.proofs.Appending.{filled_on, cut_off_on}
 use Rattle.portfolio_run.proofs.Passed.{HavePassed}
@@ -59,8 +59,8 @@ pub record ComesTo (plan : Plan) (F : FormulaData) (answer : Answer) (tally : Li
   pub filled : new.spent ≡ false → IsFilled (begun F.clauses first) journal new
   pub cut : new.spent ≡ true → IsCutOff (begun F.clauses first) journal vars new
 
-module _ (plan : Plan) (F : FormulaData) (vars : ℕ) (tally : List Counts) (done : ℕ) (x : RoundRun) (xs : List RoundRun) (J : List Entry) (h : HavePassed plan F vars tally done x xs J) (more : done < plan.conflicts)
-    (held : List Rest) (units : List Literal) (stack : List Fix) (dropped : AreDropped x (dropped_of held))
+module _ (plan : Plan) (F : FormulaData) (vars : ℕ) (stack : List Fix) (tally : List Counts) (done : ℕ) (x : RoundRun) (xs : List RoundRun) (J : List Entry) (h : HavePassed plan F vars stack tally done x xs J) (more : done < plan.conflicts)
+    (held : List Rest) (units : List Literal) (dropped : AreDropped x (dropped_of held))
     (first old : LineState) (filled : IsFilled (begun F.clauses first) J old) (left : AreLeftAfter F.clauses vars held units stack old J) where
   -- the output has not failed since the first line
   quiet : old.faults ≡ first.faults
@@ -76,7 +76,7 @@ module _ (plan : Plan) (F : FormulaData) (vars : ℕ) (tally : List Counts) (don
   spelled_on : (ns : List ℕ) → CanBeSpelled (lines F.clauses (J ++ deletions ns))
   spelled_on ns =
       spelled_from vars h.few (formula_book F.clauses) (J ++ deletions ns) (formula_on vars F.clauses (wider F.vars vars h.more F.clauses h.on))
-      (stood_on plan F vars tally done x xs J h more vars (omega arith) h.few (deletions ns) (deletions_rulers ns) (none_on vars ns)).on
+      (stood_on plan F vars stack tally done x xs J h more vars (omega arith) h.few (deletions ns) (deletions_rulers ns) (none_on vars ns)).on
 
   -- It was stopped as it deleted clauses
 
@@ -93,7 +93,7 @@ module _ (plan : Plan) (F : FormulaData) (vars : ℕ) (tally : List Counts) (don
 
     resting_early : IsResting plan F tally None short
     resting_early =
-        rests plan F vars tally done x xs J h more vars (omega arith) h.few deleted (deletions_rulers w.front) (none_on vars w.front)
+        rests plan F vars stack tally done x xs J h more vars (omega arith) h.few deleted (deletions_rulers w.front) (none_on vars w.front)
         (w.sound J left) h.rulings
         (inl (w.front, front_dropped, refl, refl, h.ruled))
 
@@ -157,8 +157,16 @@ module _ (plan : Plan) (F : FormulaData) (vars : ℕ) (tally : List Counts) (don
     same_journal : (J ++ gone) ++ entries ≡ I
     same_journal = append_assoc J gone entries
 
-    is_ruling : IsRuling F.clauses (schedule_of plan) (vars_after h.first.work.vars h.rulings) x ruling
-    is_ruling = record { dropped = dropped; vars_are = h.vars_are; resumes = subst (λ (K : List Entry). ResumesAs F.clauses start (K ++ gone)) h.rounds.6 resumes; ran = w.ruled.ran }
+    is_ruling : IsRuling F.clauses (schedule_of plan) (work_after h.first.work h.rulings) x ruling
+    is_ruling = record {
+      dropped = dropped;
+      vars_are = h.vars_are;
+      stack_is = h.stack_is;
+      begins = refl;
+      unspent = w.unspent;
+      resumes = subst (λ (K : List Entry). ResumesAs F.clauses start (K ++ gone)) h.rounds.6 resumes;
+      ran = w.ruled.ran;
+    }
 
     few_wide : wide ≤ 2 ^ 30
     few_wide = w.ruled.few h.few
@@ -174,7 +182,7 @@ module _ (plan : Plan) (F : FormulaData) (vars : ℕ) (tally : List Counts) (don
 
     resting : IsResting plan F tally None I
     resting =
-        rests plan F vars tally done x xs J h more wide w.ruled.more few_wide written written_rulers written_on sound_there (ruling ∷ h.rulings)
+        rests plan F vars stack tally done x xs J h more wide w.ruled.more few_wide written written_rulers written_on sound_there (ruling ∷ h.rulings)
         (inr (ruling, h.rulings, refl, is_ruling, refl, (λ other. absurd (other refl)), h.ruled))
 
     -- The output
@@ -220,7 +228,7 @@ module _ (plan : Plan) (F : FormulaData) (vars : ℕ) (tally : List Counts) (don
     stopped_late stop is = comes_to (stopped_answer stop) (stopped_by stop (subst (IsAnswerAgain F.clauses start I new) is answer_there))
 
     refuted_by : IsAnswerAgain F.clauses start I new (Ok NoModel) → IsReached plan F Unsat tally first.faults new.faults I
-    refuted_by a = none_left plan F tally None I resting first.faults new.faults a.0 (through plan F vars tally done x xs J h more written) (a.1.quiet ∙ quiet_between)
+    refuted_by a = none_left plan F tally None I resting first.faults new.faults a.0 (through plan F vars stack tally done x xs J h more written) (a.1.quiet ∙ quiet_between)
 
     pub refuted : result ≡ Ok NoModel → ComesTo plan F Unsat tally first new
     refuted is = comes_to Unsat (refuted_by (subst (IsAnswerAgain F.clauses start I new) is answer_there))
@@ -261,13 +269,14 @@ module _ (plan : Plan) (F : FormulaData) (vars : ℕ) (tally : List Counts) (don
         tally_is = h.tally_is;
         many = h.many;
         small = h.small;
-        first = began plan F vars tally done x xs J h more written;
+        first = began plan F vars stack tally done x xs J h more written;
         rulings = ruling ∷ h.rulings;
         again = (is_ruling, ap run_of is, refl, h.ruled);
         vars_are = vars_are;
+        stack_is = subst (HasStack w.ruled.work.stack) is w.ruled.has_stack;
         more = (let low = h.more in let wider_than = w.ruled.more in let same = vars_are in omega (arith, low, wider_than, same));
         few = (let few = few_wide in let same = vars_are in omega (arith, few, same));
-        stood = subst (λ (n : ℕ). StandsInRounds n plan.threads F.clauses I) (sym vars_are) (stood_on plan F vars tally done x xs J h more wide w.ruled.more few_wide written written_rulers written_on);
+        stood = subst (λ (n : ℕ). StandsInRounds n plan.threads F.clauses I) (sym vars_are) (stood_on plan F vars stack tally done x xs J h more wide w.ruled.more few_wide written written_rulers written_on);
         sound = sound_there;
         is_left = is_left;
         filled = filled_there left_there.1.unspent;

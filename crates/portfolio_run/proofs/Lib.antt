@@ -13,6 +13,7 @@ mod Gathering
 mod GoneOn
 mod InRounds
 mod Interleaving
+mod Keeping
 mod Lives
 mod Making
 mod Mending

@@ -18,7 +18,7 @@ use Rattle.rup_model.proofs.Additions.{told_more}
 use Rattle.rup_model.proofs.JournalSteps.{log_rounds}
 use Rattle.rup_model.proofs.Numbers.{book_last}
 use Rattle.rup_model.proofs.ProgramOpening.{rulers_ordered}
-use Rattle.simp_base.specs.WorkState.{begun as begun_work}
+use Rattle.simp_base.specs.WorkState.{WorkState, begun as begun_work}
 use Rattle.simp_base.specs.declared.work.Run.TheVariants.{Done}
 use Rattle.ruler_simp.specs.declared.ruling.Simplified.{Simplified}
 use Rattle.ruler_simp.specs.declared.rounds.Schedule.{Schedule}
@@ -31,7 +31,7 @@ use Rattle.core_rounds.specs.InRounds.{learned_by}
 use Rattle.portfolio_run.specs.Journaled.{IsProgramRound, IsUnrefuted}
 use Rattle.portfolio_run.specs.Pauses.{StandsInRounds, IsLeft, Pause, IsPaused}
 use Rattle.portfolio_run.specs.Ruled.{schedule_of}
-use Rattle.portfolio_run.specs.Rulings.{Ruling, HaveGoneOn, HasRuledOn, vars_after}
+use Rattle.portfolio_run.specs.Rulings.{Ruling, HaveGoneOn, HasRuledOn, work_after}
 use Rattle.portfolio_run.proofs.InRounds.{round_stands}
 use Rattle.portfolio_run.proofs.Resting.{IsResting, learned_resting}
 use Rattle.portfolio_run.proofs.RingsJournal.{adds_nothing}
@@ -126,7 +126,7 @@ module _ (F : FormulaData) (J : List Entry) (left : Simplified) where
 -- Where the rings rest before it
 
 -- the ruler came to its end each time, so a round may begin
-pub went_on : (F : List (List Literal)) (schedule : Schedule) (first : ℕ) (runs : List RoundRun) (mine : List Entry) (begun : Option RoundStart) (ys : List Ruling) → HaveGoneOn F schedule first runs mine ys → HasRuledOn F schedule first runs mine begun ys
+pub went_on : (F : List (List Literal)) (schedule : Schedule) (first : WorkState) (runs : List RoundRun) (mine : List Entry) (begun : Option RoundStart) (ys : List Ruling) → HaveGoneOn F schedule first runs mine ys → HasRuledOn F schedule first runs mine begun ys
 went_on F schedule first [] mine begun ys h = h
 went_on F schedule first (r ∷ rs) mine begun [] h = absurd h
 went_on F schedule first (r ∷ rs) mine begun (y ∷ ys) h = inr (y, ys, refl, h.0, h.2, (λ _. h.1), h.3)
@@ -175,7 +175,7 @@ module _ (p : Pause) (was : IsPaused p) (some_ring : 1 ≤ p.plan.threads) (on :
         alone = λ other. absurd (other refl);
       };
       rulings = was.rulings;
-      again = went_on p.formula.clauses (schedule_of p.plan) was.first.work.vars was.runs was.mine begun was.rulings was.again;
+      again = went_on p.formula.clauses (schedule_of p.plan) was.first.work was.runs was.mine begun was.rulings was.again;
       vars = p.left.vars;
       few = was.few;
       on = wider p.formula.vars p.left.vars was.more p.formula.clauses on;
@@ -197,7 +197,7 @@ module _ (p : Pause) (was : IsPaused p) (some_ring : 1 ≤ p.plan.threads) (on :
       (ap ruler_part (sym (append-nil (before_round J p.left))) ∙ front_stays J (round_start p.left) [])
 
   -- what a table for the round is over
-  pub begun_vars : vars_after begun_rests.ruled.work.vars begun_rests.rulings ≡ p.left.vars
+  pub begun_vars : (work_after begun_rests.ruled.work begun_rests.rulings).vars ≡ p.left.vars
   unfolding begun_rests rests
   begun_vars = sym was.vars_are
 

@@ -6,6 +6,7 @@ use Rattle.sat_words.specs.Clause.{is_empty}
 use Rattle.sat_words.specs.FormulaData.{FormulaData}
 use Rattle.rup_model.specs.declared.journal.Entry.{Entry}
 use Rattle.rup_model.specs.Journal.{LogSound}
+use Rattle.model_stack.specs.declared.stack.Fix.{Fix}
 use Rattle.core_rounds.specs.Rounds.{RoundRun, IsSpent, AreRounds}
 use Rattle.core_rounds.specs.InRounds.{learned_by}
 use Rattle.ring_run.specs.declared.job.Counts.{Counts}
@@ -14,10 +15,10 @@ use Rattle.portfolio_run.specs.Held.{AreTallied, total}
 use Rattle.portfolio_run.specs.Journaled.{IsUnrefuted}
 use Rattle.portfolio_run.specs.Pauses.{StandsInRounds, HasBegun, IsSmall}
 use Rattle.portfolio_run.specs.Ruled.{schedule_of}
-use Rattle.portfolio_run.specs.Rulings.{Ruling, HaveRuled, vars_after}
+use Rattle.portfolio_run.specs.Rulings.{Ruling, HaveRuled, work_after}
 
--- the rounds left the journal, the last one x, which is spent; the table of that one was over these variables
-pub record HavePassed (plan : Plan) (F : FormulaData) (vars : ℕ) (tally : List Counts) (done : ℕ) (x : RoundRun) (xs : List RoundRun) (J : List Entry) : Type 0 where
+-- the rounds left the journal, the last one x, which is spent; the table of that one was over these variables, and had this stack
+pub record HavePassed (plan : Plan) (F : FormulaData) (vars : ℕ) (stack : List Fix) (tally : List Counts) (done : ℕ) (x : RoundRun) (xs : List RoundRun) (J : List Entry) : Type 0 where
   pub some_ring : 1 ≤ plan.threads
   pub rounds : AreRounds plan.threads plan.slots plan.round plan.conflicts F.clauses (x ∷ xs) J
   pub spent : IsSpent x
@@ -30,8 +31,9 @@ pub record HavePassed (plan : Plan) (F : FormulaData) (vars : ℕ) (tally : List
   pub small : All (IsSmall plan.threads done) tally
   pub first : HasBegun F (schedule_of plan) J
   pub rulings : List Ruling
-  pub ruled : HaveRuled F.clauses (schedule_of plan) first.work.vars (x ∷ xs) rulings
-  pub vars_are : vars ≡ vars_after first.work.vars rulings
+  pub ruled : HaveRuled F.clauses (schedule_of plan) first.work (x ∷ xs) rulings
+  pub vars_are : vars ≡ (work_after first.work rulings).vars
+  pub stack_is : stack ≡ (work_after first.work rulings).stack
   pub more : F.vars ≤ vars
   pub few : vars ≤ 2 ^ 30
   pub on : All (All (IsOn F.vars)) F.clauses

@@ -10,6 +10,7 @@ use Rattle.rup_model.specs.declared.journal.Entry.{Entry}
 use Rattle.rup_model.specs.declared.journal.Entry.TheVariants.{Round}
 use Rattle.rup_model.specs.Journal.{added, LogSound}
 use Rattle.rup_model.specs.Spent.{ruler_part}
+use Rattle.model_stack.specs.declared.stack.Fix.{Fix}
 use Rattle.simp_base.specs.WorkState.{begun as begun_work}
 use Rattle.simp_base.specs.declared.work.Run.TheVariants.{Done}
 use Rattle.ruler_simp.specs.Rounds.{SimplifiedTo}
@@ -65,7 +66,7 @@ dropped_none x = record { own = λ k d lt. absurd (omega arith); ascending = tt 
 
 -- What the rounds left
 
-module _ (plan : Plan) (F : FormulaData) (vars : ℕ) (tally : List Counts) (done : ℕ) (x : RoundRun) (xs : List RoundRun) (J : List Entry) (h : HavePassed plan F vars tally done x xs J) (more : done < plan.conflicts) where
+module _ (plan : Plan) (F : FormulaData) (vars : ℕ) (stack : List Fix) (tally : List Counts) (done : ℕ) (x : RoundRun) (xs : List RoundRun) (J : List Entry) (h : HavePassed plan F vars stack tally done x xs J) (more : done < plan.conflicts) where
   -- what the ruler wrote before the first round stays at the front
   pub front_same : (written : List Entry) → ruler_part (J ++ written) ≡ ruler_part J
   front_same written =
@@ -126,7 +127,7 @@ module _ (plan : Plan) (F : FormulaData) (vars : ℕ) (tally : List Counts) (don
     formula_on : All (All (IsOn wide)) F.clauses
     formula_on = let first = h.more in wider F.vars wide (omega (arith, first, more_vars)) F.clauses h.on
 
-    pub rests : LogSound F.clauses (J ++ written) → (rulings : List Ruling) → IsLastRuling F.clauses (schedule_of plan) h.first.work.vars x xs written None rulings → IsResting plan F tally None (J ++ written)
+    pub rests : LogSound F.clauses (J ++ written) → (rulings : List Ruling) → IsLastRuling F.clauses (schedule_of plan) h.first.work x xs written None rulings → IsResting plan F tally None (J ++ written)
     rests sound rulings last =
         let same = learned_still written rulers in
         record {

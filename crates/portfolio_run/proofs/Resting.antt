@@ -34,7 +34,7 @@ use Rattle.portfolio_run.specs.Journaled.{IsJournal, IsUnrefuted}
 use Rattle.portfolio_run.specs.Pauses.{StandsInRounds}
 use Rattle.portfolio_run.specs.Room.{layout_of, HasNoRoom}
 use Rattle.portfolio_run.specs.Ruled.{schedule_of, IsRuled, IsRuledThrough}
-use Rattle.portfolio_run.specs.Rulings.{Ruling, HasRuledOn, vars_after}
+use Rattle.portfolio_run.specs.Rulings.{Ruling, HasRuledOn, work_after}
 use Rattle.portfolio_run.specs.Solved.{is_verdict, kind_of, Holds, IsUnsettled, IsReached}
 use Rattle.portfolio_run.proofs.InRounds.{journal_of_rounds}
 use Rattle.portfolio_run.proofs.Interleaving.{own_adds_none}
@@ -57,7 +57,7 @@ pub record IsResting (plan : Plan) (F : FormulaData) (tally : List Counts) (begu
   pub tally_is : (tally ≡ total plan.threads counts) ⊎ ((runs ≡ []) × (tally ≡ []))
   pub ruled : IsRuled F (schedule_of plan) I
   pub rulings : List Ruling
-  pub again : HasRuledOn F.clauses (schedule_of plan) ruled.work.vars runs written begun rulings
+  pub again : HasRuledOn F.clauses (schedule_of plan) ruled.work runs written begun rulings
   pub vars : ℕ
   pub few : vars ≤ 2 ^ 30
   pub on : All (All (IsOn vars)) F.clauses
@@ -125,7 +125,7 @@ module _ (plan : Plan) (F : FormulaData) (tally : List Counts) (begun : Option R
 
   -- the variables of a table that could be made
   abbrev vars : ℕ
-  vars = vars_after h.ruled.work.vars h.rulings
+  vars = (work_after h.ruled.work h.rulings).vars
 
   module _ (old now : ℕ) where
     -- no ring ran, and the run came to this kind of stop

@@ -17,13 +17,13 @@ use Rattle.rup_model.specs.declared.journal.Entry.{Entry}
 use Rattle.rup_model.specs.declared.journal.Entry.TheVariants.{Round}
 use Rattle.rup_model.specs.Journal.{ring_of, lines, added, ended, LogSound}
 use Rattle.rup_model.specs.Opening.{Opening}
-use Rattle.rup_model.specs.Windows.{opening_by}
+use Rattle.rup_model.specs.Windows.{since_round, to_round, opening_by}
 use Rattle.rup_model.proofs.Additions.{added-append}
 use Rattle.rup_model.proofs.LogLaw.{refutes_none}
 use Rattle.rup_model.proofs.Refuting.{added_empty_refutes}
 use Rattle.rup_model.proofs.Windowing.{last_is}
 use Rattle.drat_text.specs.Text.{CanBeSpelled}
-use Rattle.core_rounds.specs.InRounds.{learned_by, IsDueInRounds}
+use Rattle.core_rounds.specs.InRounds.{learned_by, round_limit, IsDueInRounds}
 use Rattle.ring_run.specs.declared.job.Counts.{Counts}
 use Rattle.portfolio_run.specs.Held.{IsHeld, NeverGone}
 use Rattle.portfolio_run.specs.Journaled.{IsProgramRound, IsJournal, IsUnrefuted}
@@ -84,12 +84,14 @@ module _ (F : FormulaData) (J0 : List Entry) (x : RoundStart) (K : List Entry) (
       ap (list_any is_empty) (added-append I K) ∙ list_any-append is_empty (added I) (added K)
       ∙ (λ i. going_there i || none_adds is_empty rings K t.of_rings none i)
 
-  pub learned_all : (every : Option ℕ) (most : ℕ) → learned_by rings J ≡ most → EachAfter (IsDueInRounds rings every most) [] J → ((r : ℕ) → r < rings → IsUnrefuted (own r K)) → LearnedAll F.clauses J rings every most
-  learned_all every most learns due none = record {
+  pub learned_all : (every : Option ℕ) (most : ℕ) → learned_by rings J ≡ most → learned_by rings (since_round J) ≡ round_limit every most (learned_by rings (to_round J)) → EachAfter (IsDueInRounds rings every most) [] J → ((r : ℕ) → r < rings → IsUnrefuted (own r K))
+      → LearnedAll F.clauses J rings every most
+  learned_all every most learns spent due none = record {
     fits = t.sound.fits;
     of_rounds = stands.of_rounds;
     begun = ap is_some (last_is J0 x K (none_begins F.vars rings F.clauses J0 x K t.few_rings t.of_rings o t.same t.each));
     learns = learns;
+    spent = spent;
     each_new = stands.each_new;
     spaced = stands.spaced;
     going = unrefuted none;

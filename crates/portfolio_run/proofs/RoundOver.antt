@@ -1,5 +1,5 @@
 -- The rings' steps over a table are a round of the core, after those before it.
-use Rattle.std.proofs.Common.{◌≡◌, ◌∙◌, ◌+◌, ℕ, List, [], ◌∷◌, ◌++◌, Option, sym, ap}
+use Rattle.std.proofs.Common.{◌≡◌, ◌∙◌, ◌+◌, ℕ, List, [], ◌∷◌, ◌++◌, All, Option, sym, ap, subst}
 use Rattle.std.proofs.Math.Seq.{drop-append_seam}
 use Rattle.sat_words.specs.Literal.{Literal}
 use Rattle.sat_words.specs.Clause.{has}
@@ -9,7 +9,7 @@ use Rattle.rup_model.specs.declared.journal.Entry.{Entry}
 use Rattle.rup_model.specs.declared.journal.Entry.TheVariants.{Round}
 use Rattle.share_core.specs.declared.part.CoreOpening.{CoreOpening}
 use Rattle.share_core.specs.State.{State, opening_of, later}
-use Rattle.core_rounds.specs.Rounds.{RoundRun, left_by, written_in, start_for, beginning_of, IsRound, AreRounds}
+use Rattle.core_rounds.specs.Rounds.{RoundRun, left_by, written_in, start_for, beginning_of, KeepsStarts, IsRound, AreRounds}
 use Rattle.core_rounds.specs.InRounds.{learned_by, round_limit}
 use Rattle.core_rounds.proofs.Learned.{learned_more, rulers_more, round_more}
 use Rattle.share_rule.specs.declared.Layout.{Layout}
@@ -55,7 +55,7 @@ module _ (p : Pause) (was : IsPaused p) (limit : ℕ) (l : Layout) (K : List Ent
   pub left_is : left_by (run s) ≡ s.core
   left_is = s.left.leaves
 
-  core_journal : s.core.journal ≡ s.core.opening.journal ++ K
+  pub core_journal : s.core.journal ≡ s.core.opening.journal ++ K
   core_journal = g.journal_is ∙ ap (λ (o : CoreOpening). o.journal ++ K) (sym g.opening_is)
 
   -- they wrote the journal's last entries
@@ -81,28 +81,32 @@ module _ (p : Pause) (was : IsPaused p) (limit : ℕ) (l : Layout) (K : List Ent
 
   -- The round
 
-  is_round : IsRound plan.threads plan.slots (round_limit plan.round plan.conflicts (learned_by plan.threads was.past)) F.clauses J0 (run s)
-  is_round = record {
+  round_begins : s.core.opening.journal ≡ J0 ++ beginning_of s.core.opening ∷ []
+  round_begins = ap (λ (o : CoreOpening). o.journal) g.opening_is ∙ ap (λ (y : RoundStart). J0 ++ Round y ∷ []) (sym start_is)
+
+  is_round : All (KeepsStarts s.core.opening) K → IsRound plan.threads plan.slots (round_limit plan.round plan.conflicts (learned_by plan.threads was.past)) F.clauses J0 (run s)
+  is_round keeps = record {
     rings_are = rings_there;
     depth_is = ap (λ (o : CoreOpening). o.depth) g.opening_is ∙ g.depth_is;
     limit_is = limit_there ∙ g.limit_is ∙ ap (round_limit plan.round plan.conflicts) was.done_is;
     formula_is = ap (λ (o : CoreOpening). o.formula) g.opening_is;
-    journal_is = ap (λ (o : CoreOpening). o.journal) g.opening_is ∙ ap (λ (y : RoundStart). J0 ++ Round y ∷ []) (sym start_is);
+    journal_is = round_begins;
     starts = ap (λ (o : CoreOpening). (opening_of o).starts) g.opening_is ∙ placed_starts (first_cell l) left.start.items ∙ was.is_left.starts;
     units = λ lit. ap (λ (o : CoreOpening). has o.units lit) g.opening_is ∙ was.is_left.units lit;
     opens = s.left.opens;
     enabled = s.left.enabled;
+    keeps = subst (λ (es : List Entry). All (KeepsStarts s.core.opening) es) (sym written_is) keeps;
   }
 
   -- it comes after those before it
-  pub rounds : AreRounds plan.threads plan.slots plan.round plan.conflicts F.clauses (run s ∷ was.runs) (before_round J0 left ++ K)
-  rounds = (was.past, was.mine, was.rounds, was.rulers, was.due, is_round, sym (ap (λ (c : State). c.journal) left_is ∙ g.journal_is))
+  pub rounds : All (KeepsStarts s.core.opening) K → AreRounds plan.threads plan.slots plan.round plan.conflicts F.clauses (run s ∷ was.runs) (before_round J0 left ++ K)
+  rounds keeps = (was.past, was.mine, was.rounds, was.rulers, was.due, is_round keeps, sym (ap (λ (c : State). c.journal) left_is ∙ g.journal_is))
 
   -- and the ruler went on before it
-  pub ruled_over : HaveRuled F.clauses (schedule_of plan) was.first.work.vars (run s ∷ was.runs) was.rulings
+  pub ruled_over : HaveRuled F.clauses (schedule_of plan) was.first.work (run s ∷ was.runs) was.rulings
   ruled_over = (
     was.mine,
-    is_round.journal_is
+    round_begins
         ∙ ap (λ (I : List Entry). (I ++ was.mine) ++ beginning_of s.core.opening ∷ []) (sym (rounds_left plan.threads plan.slots plan.round plan.conflicts F.clauses was.runs was.past was.rounds)),
     was.again,
   )

@@ -25,7 +25,7 @@ use Rattle.simp_base.specs.declared.work.Run.{Run}
 use Rattle.ruler_simp.specs.declared.ruling.Outcome.{Outcome}
 use Rattle.ruler_simp.specs.declared.ruling.Outcome.TheVariants.{Simplified as LeftOver, Refuted as NoModel}
 use Rattle.ruler_simp.specs.declared.ruling.Simplified.{Simplified}
-use Rattle.ruler_simp.specs.Ruled.{IsAnswer, HasVars, Ruled, run_of, origin_of as work_origin}
+use Rattle.ruler_simp.specs.Ruled.{IsAnswer, HasVars, HasStack, Ruled, run_of, origin_of as work_origin}
 use Rattle.ruler_simp.specs.Rounds.{SimplifiedTo}
 use Rattle.ruler_simp.proofs.Telling.{none_made}
 use Rattle.share_core.proofs.Counting.{some_same}
@@ -271,6 +271,7 @@ module _ {S : Type 0} {d : Ghosts S} (written flushed target : S → Option (Lis
         rulings = [];
         again = refl;
         vars_are = vars_are;
+        stack_is = subst (HasStack was.ruled.work.stack) is was.ruled.has_stack;
         more = subst (λ (n : ℕ). formula.vars ≤ n) (sym vars_are) was.ruled.more;
         few = subst (λ (n : ℕ). n ≤ 2 ^ 30) (sym vars_are) few_left;
         stood = subst (λ (n : ℕ). StandsInRounds n plan.threads F' rulers_journal) (sym vars_are) (rulers_stood plan formula before told result tally few on rings (inr none) refl refl refl was.ruled);

@@ -108,10 +108,10 @@ module _ {S : Type 0} {d : Ghosts S} (written flushed target : S → Option (Lis
       by (inr lt) = absurd (last lt)
 
   -- if no answer came, the round is passed
-  pub settled_passed : (s : Seen p.me.0) → answer ≡ Unknown → HavePassed plan F h.left.vars (add_tallies counts before) (done + limit) (run s) h.opened.was.runs s.core.journal
+  pub settled_passed : (s : Seen p.me.0) → answer ≡ Unknown → HavePassed plan F h.left.vars h.left.stack (add_tallies counts before) (done + limit) (run s) h.opened.was.runs s.core.journal
   settled_passed s unknown = by searched
     where
-      by_ends : (r : HasRunTo t v h.home plan F.vars h.left.stack p counts answer) → AllSpent r.ends answer ⊎ WasWon p.me.0 F.vars h.left.stack r.ends answer → HavePassed plan F h.left.vars (add_tallies counts before) (done + limit) (run s) h.opened.was.runs s.core.journal
+      by_ends : (r : HasRunTo t v h.home plan F.vars h.left.stack p counts answer) → AllSpent r.ends answer ⊎ WasWon p.me.0 F.vars h.left.stack r.ends answer → HavePassed plan F h.left.vars h.left.stack (add_tallies counts before) (done + limit) (run s) h.opened.was.runs s.core.journal
       by_ends r (inl spent) =
           passed_there written flushed target faults sink plan F h.opened.book h.left before done limit h.opened.origin on rings few_rings h.opened.was h.opened.limit_is
           t.layout h.opened.layout_is t h.home p counts answer s gathered r spent.each
@@ -119,7 +119,7 @@ module _ {S : Type 0} {d : Ghosts S} (written flushed target : S → Option (Lis
           let e : End × Counts = (end.Spent, no_counts) in
           absurd (none_unknown F.vars h.left.stack (get_or r.ends won.ring e).0 won.won.kind (won.won.decided e) (sym unknown ∙ won.is e))
 
-      by : HasSearched t v h.home plan F.vars h.left.stack p none counts answer → HavePassed plan F h.left.vars (add_tallies counts before) (done + limit) (run s) h.opened.was.runs s.core.journal
+      by : HasSearched t v h.home plan F.vars h.left.stack p none counts answer → HavePassed plan F h.left.vars h.left.stack (add_tallies counts before) (done + limit) (run s) h.opened.was.runs s.core.journal
       by (inl r) = by_ends r r.decided
       by (inr r) = (let clash : Unknown ≡ Memory = sym unknown ∙ r.is in absurd (cc clash))
 

@@ -98,8 +98,8 @@ abbrev pub NeverGone : {rings slots : ℕ} {every : Option ℕ} {most : ℕ} {cl
 NeverGone {rings} {slots} {every} {most} {clauses} {journal} (inl rests) ring = (rests.runs ≡ []) ⊎ (learned_by rings journal < most)
 NeverGone {rings} {slots} {every} {most} {clauses} {journal} (inr ran) ring = ((left_by ran.last).part ring).found ≤ ran.last.opening.limit
 
--- the stop to which the steps of the last round come is of this kind, or there is none; if the rings rest, none has found a model,
--- and not all are spent
+-- the stop to which the steps of the last round come is of this kind, or there is none; if the rings rest, there is a kind, and not that
+-- of a model
 abbrev pub HasStop : {rings slots : ℕ} {every : Option ℕ} {most : ℕ} {clauses : List (List Literal)} {journal : List Entry} {tally : List Counts} → IsHeld rings slots every most clauses journal tally → Option ℕ → Type 0
 HasStop (inl rests) kind = (kind ≢ Some STOP_SAT) × (kind ≢ None)
 HasStop (inr ran) kind = option_map (λ stop. stop.kind) (left_by ran.last).stop ≡ kind

@@ -28,7 +28,7 @@ use Rattle.portfolio_run.specs.declared.plan.Plan.{Plan}
 use Rattle.portfolio_run.specs.Held.{AreTallied, total}
 use Rattle.portfolio_run.specs.Journaled.{IsPlainEntry, BeginsWell}
 use Rattle.portfolio_run.specs.Ruled.{schedule_of}
-use Rattle.portfolio_run.specs.Rulings.{Ruling, HaveGoneOn, vars_after}
+use Rattle.portfolio_run.specs.Rulings.{Ruling, HaveGoneOn, work_after}
 
 -- The journal
 
@@ -55,7 +55,7 @@ pub record HasBegun (F : FormulaData) (schedule : Schedule) (J : List Entry) : T
 
 -- neither the formula nor the journal has the empty clause; after this journal the start clauses, in their order, and the units are
 -- those of the program's opening, and once an entry begins the next round the rings can start from them; each model of them, mended
--- by the stack, is one of the formula; all are on the variables that are left
+-- by the stack, is a model of the formula; all are on the variables that are left
 pub record IsLeft (F : FormulaData) (J : List Entry) (left : Simplified) : Type 0 where
   pub whole : list_any is_empty F.clauses ≡ false
   pub going : list_any is_empty (added J) ≡ false
@@ -94,8 +94,8 @@ pub record Pause : Type 0 where
   pub before : LineState
   pub now : LineState
 
--- the rings rest: rounds left a journal, and one more is due; the ruler went on with it and came to its end, and its output has the
--- lines; each ring counted what it did
+-- the rings rest: rounds left a journal, and one more is due; the ruler went on with it and came to its end, and what is left has the
+-- variables and the stack of its last work; its output has the lines; each ring counted what it did
 pub record IsPaused (p : Pause) : Type 0 where
   pub runs : List RoundRun
   pub past : List Entry
@@ -112,8 +112,9 @@ pub record IsPaused (p : Pause) : Type 0 where
   pub small : All (IsSmall p.plan.threads p.done) p.tally
   pub first : HasBegun p.formula (schedule_of p.plan) (past ++ mine)
   pub rulings : List Ruling
-  pub again : HaveGoneOn p.formula.clauses (schedule_of p.plan) first.work.vars runs mine rulings
-  pub vars_are : p.left.vars ≡ vars_after first.work.vars rulings
+  pub again : HaveGoneOn p.formula.clauses (schedule_of p.plan) first.work runs mine rulings
+  pub vars_are : p.left.vars ≡ (work_after first.work rulings).vars
+  pub stack_is : p.left.stack ≡ (work_after first.work rulings).stack
   pub more : p.formula.vars ≤ p.left.vars
   pub few : p.left.vars ≤ 2 ^ 30
   pub stood : StandsInRounds p.left.vars p.plan.threads p.formula.clauses (past ++ mine)

@@ -23,7 +23,7 @@ use Rattle.portfolio_run.specs.Held.{IsHeld, HasStop, NeverGone}
 use Rattle.portfolio_run.specs.Journaled.{IsJournal, IsUnrefuted, IsCutShort}
 use Rattle.portfolio_run.specs.Room.{HasNoRoom}
 use Rattle.portfolio_run.specs.Ruled.{schedule_of, IsRuled, IsRuledThrough}
-use Rattle.portfolio_run.specs.Rulings.{Ruling, vars_after, HasRuledBetween}
+use Rattle.portfolio_run.specs.Rulings.{Ruling, work_after, HasRuledBetween}
 use Rattle.portfolio_run.specs.Spent.{LearnedAll}
 
 -- a value for each variable, which make each clause true
@@ -36,7 +36,8 @@ pub record IsRefutation (clauses : List (List Literal)) (journal : List Entry) :
   pub refuted : Refutes clauses (lines clauses journal)
   pub no_model : (model : List Bool) → formula_true model clauses ≡ true → ⊥
 
--- no draw of one of the rings has found all tickets of its round gone, and neither it nor the ruler has added the empty clause
+-- no draw of one of the rings has found all tickets of the last round gone, or the rings rest and something is left to learn; and
+-- neither that ring nor the ruler has added the empty clause
 pub record IsUnsettled {rings slots : ℕ} {every : Option ℕ} {most : ℕ} {clauses : List (List Literal)} {journal : List Entry} {tally : List Counts} (held : IsHeld rings slots every most clauses journal tally) : Type 0 where
   pub ring : ℕ
   pub below : ring < rings
@@ -83,23 +84,24 @@ kind_of ProofFault = Some STOP_PROOF
 kind_of Memory = Some STOP_MEMORY
 
 -- where a search that comes to this kind of stop has met a fault of the proof, the sink has failed by then; at each other kind no
--- line had failed, unless two rings or more ran beside each other after a ruler that was done
+-- line had failed, unless two rings or more ran beside each other after a ruler that was done before the first round
 pub record FaultsFit (plan : Plan) (formula : FormulaData) (journal : List Entry) (before searched : ℕ) (kind : Option ℕ) : Type 0 where
   pub rose : kind ≡ Some STOP_PROOF → Rose before searched
   pub calm : kind ≢ Some STOP_PROOF → (searched ≡ before) ⊎ ((2 ≤ plan.threads) × IsRuledThrough formula (schedule_of plan) journal)
 
 -- a search has come to this answer, which holds, over this journal: it begins with what the ruler wrote in the plan's rounds, and
--- rounds of the rings leave it, with the stop of this answer; after each round of the rings the ruler went on as the plan asks; a
--- verdict comes only if the simplifiers came to their end. The table's variables are those that the ruler left. The sink of the proof
--- had failed this often before the search, and this often by then.
+-- rounds of the rings leave it, with the stop of this answer, or they rest after what the ruler wrote since; after each round of the
+-- rings the ruler went on as the plan asks; a verdict comes only if the simplifiers came to their end before the first round. The
+-- table's variables are those that the ruler left last. The sink of the proof had failed this often before the search, and this often
+-- by then.
 pub record IsReached (plan : Plan) (formula : FormulaData) (answer : Answer) (tally : List Counts) (before searched : ℕ) (journal : List Entry) : Type 0 where
   pub stands : IsJournal plan.threads formula.clauses journal
   pub ruled : IsRuled formula (schedule_of plan) journal
   pub held : IsHeld plan.threads plan.slots plan.round plan.conflicts formula.clauses journal tally
   pub rulings : List Ruling
-  pub again : HasRuledBetween (schedule_of plan) ruled.work.vars held rulings
+  pub again : HasRuledBetween (schedule_of plan) ruled.work held rulings
   pub stop : HasStop held (kind_of answer)
-  pub holds : Holds plan (vars_after ruled.work.vars rulings) formula journal held answer
+  pub holds : Holds plan (work_after ruled.work rulings).vars formula journal held answer
   pub through : is_verdict answer ≡ true → IsRuledThrough formula (schedule_of plan) journal
   pub faults_fit : FaultsFit plan formula journal before searched (kind_of answer)
 

@@ -16,9 +16,9 @@ pub struct Plan {
     pub slots: u32,
     /// What the first phases of the variables are made of, with each ring's number.
     pub seed: u64,
-    /// How many steps each ring walks after its first import, up to 10^9.
+    /// How many steps each ring walks after its first import in each round, up to 10^9.
     pub walk: u64,
-    /// How many rounds of simplifiers the formula may get before the search; in none, units alone are propagated.
+    /// How many rounds of simplifiers there may be before each round of the rings; in none, units alone are propagated.
     pub rounds: u32,
     /// Whether each round may add variables that stand for two literals, if fewer clauses do then.
     pub additions: bool,

@@ -243,6 +243,7 @@ module _ (F : FormulaData) (schedule : Schedule) (old : LineState) (unspent : ol
           few = log.few;
           vars = λ none. whole_vars schedule (begun F old) w (Ok RunDone) h.0 none h.1;
           has_vars = left.vars;
+          has_stack = left.stack;
           output = out;
           answer = (
             simplified F old h.0 w stands kept goes (none_empty F old first.1.open_yet) end.1.alone s left,
@@ -265,6 +266,7 @@ module _ (F : FormulaData) (schedule : Schedule) (old : LineState) (unspent : ol
           few = log.few;
           vars = λ none. whole_vars schedule (begun F old) w (Ok RunRefuted) h.0 none h.1;
           has_vars = tt;
+          has_stack = tt;
           output = out;
           answer = (
             added_empty_refutes F.clauses h.0 stands.sound (sym stands.ended ∙ over.ended),
@@ -286,6 +288,7 @@ module _ (F : FormulaData) (schedule : Schedule) (old : LineState) (unspent : ol
           few = log.few;
           vars = λ none. whole_vars schedule (begun F old) w (Err why) h.0 none h.1;
           has_vars = tt;
+          has_stack = tt;
           output = out;
           answer = (subst (λ (y : LineState). HasOutputCause old y why) (sym out) cause.0, sym stands.ended ∙ cause.1);
         }))
@@ -301,6 +304,7 @@ module _ (F : FormulaData) (schedule : Schedule) (old : LineState) (unspent : ol
     few = λ le. le;
     vars = λ none. refl;
     has_vars = tt;
+    has_stack = tt;
     output = same;
     answer = (ap (λ (x : LineState). x.faults) same, refl);
   }
@@ -333,6 +337,7 @@ module _ (F : List (List Literal)) (schedule : Schedule) (start : WorkState) (un
           few = log.few;
           vars = λ none. whole_vars schedule start w (Ok RunDone) h.0 none h.1;
           has_vars = left.vars;
+          has_stack = left.stack;
           output = out;
           answer = λ J r. (
             simplified_again (at J) h.0 start w (log.stands (at J) [] (begins_again J r)) kept goes (none_given J r) end.1.alone s left,
@@ -354,6 +359,7 @@ module _ (F : List (List Literal)) (schedule : Schedule) (start : WorkState) (un
           few = log.few;
           vars = λ none. whole_vars schedule start w (Ok RunRefuted) h.0 none h.1;
           has_vars = tt;
+          has_stack = tt;
           output = out;
           answer = λ J r. (
             (let stands = log.stands (at J) [] (begins_again J r) in added_empty_refutes F (J ++ h.0) stands.sound (sym stands.ended ∙ over.ended)),
@@ -374,6 +380,7 @@ module _ (F : List (List Literal)) (schedule : Schedule) (start : WorkState) (un
           few = log.few;
           vars = λ none. whole_vars schedule start w (Err why) h.0 none h.1;
           has_vars = tt;
+          has_stack = tt;
           output = out;
           answer = λ J r. (
             subst (λ (y : LineState). HasOutputCause start.output y why) (sym out) cause.0,
@@ -392,6 +399,7 @@ module _ (F : List (List Literal)) (schedule : Schedule) (start : WorkState) (un
     few = λ le. le;
     vars = λ none. refl;
     has_vars = tt;
+    has_stack = tt;
     output = same;
     answer = λ J r. (ap (λ (x : LineState). x.faults) same, sym (begins_again J r).ended ∙ going);
   }

@@ -22,7 +22,7 @@ use Rattle.ruler_simp.specs.declared.ruling.Outcome.TheVariants.{Simplified as L
 use Rattle.ruler_simp.specs.declared.rounds.Schedule.{Schedule}
 use Rattle.ruler_simp.specs.Rounds.{SimplifiedTo}
 use Rattle.ruler_simp.specs.Left.{start_of, left_clauses}
-use Rattle.ruler_simp.specs.Ruled.{AreOn, IsSound, IsUnended, run_of, HasVars}
+use Rattle.ruler_simp.specs.Ruled.{AreOn, IsSound, IsUnended, run_of, HasVars, HasStack}
 
 -- the work goes on from this journal of the formula
 abbrev pub ResumesAs : List (List Literal) → WorkState → List Entry → Type 0
@@ -69,5 +69,6 @@ pub record RuledAgain (F : List (List Literal)) (schedule : Schedule) (start : W
   pub few : start.vars ≤ 2 ^ 30 → work.vars ≤ 2 ^ 30
   pub vars : schedule.additions ≡ false → work.vars ≡ start.vars
   pub has_vars : HasVars work.vars result
+  pub has_stack : HasStack work.stack result
   pub output : new ≡ work.output
   pub answer : (J : List Entry) → ResumesAs F start J → IsAnswerAgain F start (J ++ entries) new result

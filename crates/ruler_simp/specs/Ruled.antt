@@ -8,6 +8,7 @@ use Rattle.rup_model.specs.declared.journal.Entry.{Entry}
 use Rattle.rup_model.specs.Log.{Refutes}
 use Rattle.rup_model.specs.Journal.{lines, added}
 use Rattle.rup_model.specs.Opening.{IsOpening, program_opening}
+use Rattle.model_stack.specs.declared.stack.Fix.{Fix}
 use Rattle.model_stack.specs.Extend.{Lifts}
 use Rattle.drat_text.specs.LineState.{LineState}
 use Rattle.drat_text.specs.JournalText.{Origin}
@@ -72,6 +73,12 @@ HasVars vars (Ok (LeftOver s)) = s.vars ≡ vars
 HasVars vars (Ok NoModel) = Unit {0}
 HasVars vars (Err stop) = Unit {0}
 
+-- and its stack
+abbrev pub HasStack : List Fix → Result Outcome LineStop → Type 0
+HasStack stack (Ok (LeftOver s)) = s.stack ≡ stack
+HasStack stack (Ok NoModel) = Unit {0}
+HasStack stack (Err stop) = Unit {0}
+
 -- the simplifiers ran over the formula in the rounds of this schedule, and left a work and a journal; the work stands over the
 -- journal, so that each of its lines is valid where it stands, all of them on the work's variables, and the output has them;
 -- these are the formula's, and more only if the schedule has additions; the answer is what they came to
@@ -84,5 +91,6 @@ pub record Ruled (F : FormulaData) (schedule : Schedule) (old new : LineState) (
   pub few : F.vars ≤ 2 ^ 30 → work.vars ≤ 2 ^ 30
   pub vars : schedule.additions ≡ false → work.vars ≡ F.vars
   pub has_vars : HasVars work.vars result
+  pub has_stack : HasStack work.stack result
   pub output : new ≡ work.output
   pub answer : IsAnswer F journal old new result

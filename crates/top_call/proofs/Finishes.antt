@@ -20,7 +20,7 @@ use Rattle.portfolio_run.specs.declared.answer.Answer.TheVariants as answer
 use Rattle.portfolio_run.specs.declared.plan.Plan.{Plan as SearchPlan}
 use Rattle.portfolio_run.specs.Held.{IsHeld}
 use Rattle.portfolio_run.specs.Ruled.{schedule_of, IsRuledThrough}
-use Rattle.portfolio_run.specs.Rulings.{vars_after}
+use Rattle.portfolio_run.specs.Rulings.{work_after}
 use Rattle.portfolio_run.specs.Solved.{Holds, FaultsFit, IsTold, IsFinished, IsSolved, is_verdict, kind_of, unfinished}
 use Rattle.top_call.specs.declared.plan.CallPlan.{CallPlan}
 use Rattle.top_call.specs.declared.report.Tally.{Tally}
@@ -133,7 +133,7 @@ log_of format F J a searched faults flushed written f = record {
 started : (plan : CallPlan) (text : Option (List ℕ)) (source : FaultCount) (out : Output) (F : FormulaData) (a : Answer) (counts : List Counts) (tally : Tally) (faults : ℕ) (flushed written : Option (List ℕ)) (kept : Option (List Line))
     → (s : IsSolved plan.search F a counts 0 faults flushed written kept) → WasGiven plan.make text F → IsStill source
     → tally ≡ rings_tally (each_counted plan.search.threads counts) no_lack
-    → (started : IsStarted (kind_of s.found) no_lack F s.journal tally (record { plan = plan; text = text; source = source; proof = Some (record { faults = faults; written = written; flushed = flushed }); out = out })) × Holds plan.search (vars_after started.ruled.work.vars started.rulings) F s.journal started.held s.found
+    → (started : IsStarted (kind_of s.found) no_lack F s.journal tally (record { plan = plan; text = text; source = source; proof = Some (record { faults = faults; written = written; flushed = flushed }); out = out })) × Holds plan.search (work_after started.ruled.work started.rulings).vars F s.journal started.held s.found
 started plan text source out F a counts tally faults flushed written kept s given still is =
     let rings : ℕ = plan.search.threads in
     let slots : ℕ = plan.search.slots in
@@ -149,7 +149,7 @@ started plan text source out F a counts tally faults flushed written kept s give
         counts = each_counted rings counts;
         held = held;
         rulings = s.reached.rulings;
-        again = ruled_each (schedule_of plan.search) s.reached.ruled.work.vars rings slots every limit F.clauses s.journal counts s.reached.held s.reached.rulings s.reached.again;
+        again = ruled_each (schedule_of plan.search) s.reached.ruled.work rings slots every limit F.clauses s.journal counts s.reached.held s.reached.rulings s.reached.again;
         stop = stop_each rings slots every limit F.clauses s.journal counts s.reached.held (kind_of s.found) s.reached.stop;
         searched = s.searched;
         faults_fit = s.reached.faults_fit;
@@ -157,7 +157,7 @@ started plan text source out F a counts tally faults flushed written kept s give
         tally_is = is;
         learned = subst (λ (t : Tally). AreLearned rings limit s.journal t.learned) (sym is) (are_learned rings slots every limit F.clauses s.journal (each_counted rings counts) held long);
       },
-      holds_each plan.search (vars_after s.reached.ruled.work.vars s.reached.rulings) F s.journal counts s.reached.held s.found s.reached.holds,
+      holds_each plan.search (work_after s.reached.ruled.work s.reached.rulings).vars F s.journal counts s.reached.held s.found s.reached.holds,
     )
 
 -- with what there was no room for
@@ -206,7 +206,7 @@ fault_rose plan F J found searched faults t fit later = elim t.ends [
 stopped : (end : CallEnd) (plan : CallPlan) (text : Option (List ℕ)) (source : FaultCount) (out : Output) (F : FormulaData) (a : Answer) (counts : List Counts) (faults : ℕ) (flushed written : Option (List ℕ)) (kept : Option (List Line))
     (occurring : List Bool) (result : Result SearchVerdict CallEnd) (before tally : Tally) → IsOccurring F.clauses F.vars occurring
     → IsVerdictOf occurring a result → result ≡ Err end → (s : IsSolved plan.search F a counts 0 faults flushed written kept) → tally ≡ noted end before → IsStill out.faults
-    → (started : IsStarted (kind_of s.found) no_lack F s.journal before (record { plan = plan; text = text; source = source; proof = Some (record { faults = faults; written = written; flushed = flushed }); out = out })) × Holds plan.search (vars_after started.ruled.work.vars started.rulings) F s.journal started.held s.found
+    → (started : IsStarted (kind_of s.found) no_lack F s.journal before (record { plan = plan; text = text; source = source; proof = Some (record { faults = faults; written = written; flushed = flushed }); out = out })) × Holds plan.search (work_after started.ruled.work started.rulings).vars F s.journal started.held s.found
     → RunOutcome end F s.journal tally (record { plan = plan; text = text; source = source; proof = Some (record { faults = faults; written = written; flushed = flushed }); out = out })
 stopped end plan text source out F a counts faults flushed written kept occurring result before tally occurs is err s noted_is still began = by a is s.told
   where
@@ -218,7 +218,7 @@ stopped end plan text source out F a counts faults flushed written kept occurrin
 
     -- the rings were to start, and this answer holds
     Began : Answer → Type 0
-    Began b = (started : IsStarted (kind_of b) no_lack F s.journal before run) × Holds plan.search (vars_after started.ruled.work.vars started.rulings) F s.journal started.held b
+    Began b = (started : IsStarted (kind_of b) no_lack F s.journal before run) × Holds plan.search (work_after started.ruled.work started.rulings).vars F s.journal started.held b
 
     at_kind : (b : Answer) → b ≡ s.found → Began b
     at_kind b same = subst Began (sym same) began
@@ -236,7 +236,7 @@ stopped end plan text source out F a counts faults flushed written kept occurrin
     by answer.ProofFault i t = as_end ProofFault (let e : ProofFault ≡ end = cc in e) (record {
       kind = kind_of s.found;
       started = began.0;
-      failed = fault_found plan.search (vars_after s.reached.ruled.work.vars s.reached.rulings) F s.journal counts s.reached.held s.found occurring faults occurs t s.reached.holds s.reached.through;
+      failed = fault_found plan.search (work_after s.reached.ruled.work s.reached.rulings).vars F s.journal counts s.reached.held s.found occurring faults occurs t s.reached.holds s.reached.through;
       rose = fault_rose plan.search F s.journal s.found s.searched faults t s.reached.faults_fit later;
     })
     by answer.Memory i t =
@@ -287,7 +287,7 @@ verdict_run plan text source out F a counts f0 faults flushed written kept befor
     let s : IsSolved plan.search F a counts 0 faults flushed written kept = subst (λ (n : ℕ). IsSolved plan.search F a counts n faults flushed written kept) none solved in
     let v : is_verdict a ≡ true = verdict_is a occurring result verdict of_answer ok in
     let same : a ≡ s.found = told_found s.found a 0 faults s.told (sound_verdict a v) in
-    let vars : ℕ = vars_after s.reached.ruled.work.vars s.reached.rulings in
+    let vars : ℕ = (work_after s.reached.ruled.work s.reached.rulings).vars in
     let holds : Holds plan.search vars F s.journal s.reached.held a = subst (Holds plan.search vars F s.journal s.reached.held) (sym same) s.reached.holds in
     let h = decided plan.search vars F s.journal counts s.reached.held a occurring result verdict occurs of_answer ok holds (λ e. s.reached.through (sym (ap is_verdict same) ∙ e)) in
     let began = started plan text source out F a counts tally faults flushed written kept s given still (told plan.search F a counts faults flushed written kept before tally s zeros is) in

@@ -20,6 +20,7 @@ use Rattle.core_rounds.specs.Rounds.{RoundRun, written_in, start_for, AreRounds}
 use Rattle.core_rounds.specs.InRounds.{learned_by}
 use Rattle.core_rounds.proofs.Learned.{rulers_learned}
 use Rattle.core_rounds.proofs.OneRound.{grows}
+use Rattle.simp_base.specs.WorkState.{WorkState}
 use Rattle.ruler_simp.specs.declared.rounds.Schedule.{Schedule}
 use Rattle.ring_run.specs.declared.job.Counts.{Counts}
 use Rattle.portfolio_run.specs.declared.answer.Answer.{Answer}
@@ -110,7 +111,7 @@ stop_each rings slots every limit F J counts (inl h) kind stop = stop
 stop_each rings slots every limit F J counts (inr h) kind stop = stop
 
 -- and the same of the ruler
-pub ruled_each : (schedule : Schedule) (first rings slots : ℕ) (every : Option ℕ) (limit : ℕ) (F : List (List Literal)) (J : List Entry) (counts : List Counts) (held : IsHeld rings slots every limit F J counts) (rulings : List Ruling)
+pub ruled_each : (schedule : Schedule) (first : WorkState) (rings slots : ℕ) (every : Option ℕ) (limit : ℕ) (F : List (List Literal)) (J : List Entry) (counts : List Counts) (held : IsHeld rings slots every limit F J counts) (rulings : List Ruling)
     → HasRuledBetween schedule first held rulings → HasRuledBetween schedule first (held_each rings slots every limit F J counts held) rulings
 unfolding held_each
 ruled_each schedule first rings slots every limit F J counts (inl h) rulings again = again

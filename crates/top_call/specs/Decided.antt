@@ -34,7 +34,7 @@ Holds plan formula journal (Satisfiable model) = IsClearedModel formula model
 Holds plan formula journal Unsatisfiable = IsRefutation formula.clauses journal
 Holds plan formula journal Unknown = LearnedAll formula.clauses journal plan.threads plan.round plan.conflicts
 
--- the verdict holds of a run with this plan, in which the simplifiers came to their end
+-- the verdict holds of a run with this plan, in which the simplifiers came to their end before the first round
 pub record Decides (plan : Plan) (formula : FormulaData) (journal : List Entry) (verdict : SearchVerdict) : Type 0 where
   pub holds : Holds plan formula journal verdict
   pub ruled : IsRuledThrough formula (schedule_of plan) journal

@@ -13,7 +13,7 @@ use Rattle.portfolio_run.specs.Held.{IsHeld, HasStop}
 use Rattle.portfolio_run.specs.Journaled.{IsJournal}
 use Rattle.portfolio_run.specs.Room.{HasNoRoom}
 use Rattle.portfolio_run.specs.Ruled.{schedule_of, IsRuled}
-use Rattle.portfolio_run.specs.Rulings.{Ruling, vars_after, HasRuledBetween}
+use Rattle.portfolio_run.specs.Rulings.{Ruling, work_after, HasRuledBetween}
 use Rattle.portfolio_run.specs.Solved.{IsUnsettled, FaultsFit}
 use Rattle.dimacs_read.specs.Codes.{number_of}
 use Rattle.dimacs_read.specs.declared.stop.Code.{Code}
@@ -57,9 +57,9 @@ pub record IsBroken (formula : FormulaData) (journal : List Entry) (tally : Tall
   pub out : IsStill run.out.faults
 
 -- The formula was made, or read without a fault, and the rings that are asked for were to start. Their journal begins with what the
--- ruler wrote in the rounds of simplifiers that are allowed, and is what rounds of the rings leave; no more lemmas were learned than
--- allowed, in one round and in all. After each round of the rings the ruler went on as is asked. The steps of the last round come to a
--- stop of this kind, or to none. If it is a fault of the proof, the writer had failed by then; else it may have failed if two rings or
+-- ruler wrote in the rounds of simplifiers that are allowed, and is what rounds of the rings leave, or the ruler after them; no more
+-- lemmas were learned than allowed, in one round and in all. After each round of the rings the ruler went on as is asked. The steps of
+-- the last round come to a stop of this kind, or to none, unless the rings rest. If it is a fault of the proof, the writer had failed by then; else it may have failed if two rings or
 -- more ran. The writer holds the journal. The tally has what each ring counted in all rounds together, and the need and the room if
 -- there was too little.
 pub record IsStarted (kind : Option ℕ) (lack : NoRoom) (formula : FormulaData) (journal : List Entry) (tally : Tally) (run : Run) : Type 0 where
@@ -70,7 +70,7 @@ pub record IsStarted (kind : Option ℕ) (lack : NoRoom) (formula : FormulaData)
   pub counts : List Counts
   pub held : IsHeld run.plan.search.threads run.plan.search.slots run.plan.search.round run.plan.search.conflicts formula.clauses journal counts
   pub rulings : List Ruling
-  pub again : HasRuledBetween (schedule_of run.plan.search) ruled.work.vars held rulings
+  pub again : HasRuledBetween (schedule_of run.plan.search) ruled.work held rulings
   pub stop : HasStop held kind
   pub searched : ℕ
   pub faults_fit : FaultsFit run.plan.search formula journal 0 searched kind
@@ -120,14 +120,14 @@ pub record IsUnproved (formula : FormulaData) (journal : List Entry) (tally : Ta
 -- there was no room, for which the search stopped: for a start clause of a round, for a clause that might come next after a front of
 -- the journal, or for one entry more of a full one. All clauses of the round lie in the words that were asked for as the journal has
 -- it, in a table over the variables that the ruler left before the last round. No draw of one of the rings has found all tickets of
--- that round gone, and neither it nor the ruler has added the empty clause. The tally has what was needed and what there was.
+-- that round gone, or the rings rest and something is left to learn; neither that ring nor the ruler has added the empty clause. The tally has what was needed and what there was.
 pub record IsCrowded (lack : NoRoom) (formula : FormulaData) (journal : List Entry) (tally : Tally) (run : Run) : Type 0 where
   pub started : IsStarted (Some STOP_ROOM) lack formula journal tally run
-  pub room : HasNoRoom run.plan.search (vars_after started.ruled.work.vars started.rulings) started.held lack
+  pub room : HasNoRoom run.plan.search (work_after started.ruled.work started.rulings).vars started.held lack
   pub unsettled : IsUnsettled started.held
 
--- memory ran out in the search, before a verdict: no draw of one of the rings has found all tickets of the last round gone, and
--- neither it nor the ruler has added the empty clause; the output is as it was
+-- memory ran out in the search, before a verdict: no draw of one of the rings has found all tickets of the last round gone, or the
+-- rings rest and something is left to learn; neither that ring nor the ruler has added the empty clause; the output is as it was
 pub record IsStarved (formula : FormulaData) (journal : List Entry) (tally : Tally) (run : Run) : Type 0 where
   pub started : IsStarted (Some STOP_MEMORY) no_lack formula journal tally run
   pub unsettled : IsUnsettled started.held

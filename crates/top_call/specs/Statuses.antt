@@ -94,8 +94,8 @@ pub record HasJournal (formula : FormulaData) (journal : List Entry) (call : Cal
   pub searched : ℕ
   pub log : IfSome call.proof (HoldsLog (search_in call).format formula.clauses journal searched)
 
--- the ruler alone wrote the journal, or rounds of the rings leave it, each a list of enabled steps from the ruler's end on, who writes
--- alone between two of them: so no clause was deleted that a ring, a place of an exchange or an open grant still had, and the rings
+-- rounds of the rings leave the journal, each a list of enabled steps from the ruler's end on, who writes alone before, between and
+-- perhaps after them: so no clause was deleted that a ring, a place of an exchange or an open grant still had, and the rings
 -- together learned no more lemmas than they may, in one round and in all. The tally has what each ring counted in all rounds
 -- together: its lemmas, those that it offered, and the places of other rings in which it put them, one for each of them and lemma.
 pub record IsCounted (formula : FormulaData) (journal : List Entry) (tally : Tally) (call : Call) : Type 0 where

@@ -52,7 +52,7 @@ use Rattle.portfolio_run.specs.declared.answer.Answer.TheVariants.{Unsat, Unknow
 use Rattle.portfolio_run.specs.declared.plan.Plan.{Plan}
 use Rattle.portfolio_run.specs.Held.{no_counts}
 use Rattle.portfolio_run.specs.Pauses.{IsPaused}
-use Rattle.portfolio_run.specs.Reached.{Records, HasReached, IsGathered, RanAt, pause_of, stopped_answer}
+use Rattle.portfolio_run.specs.Reached.{Records, HasReached, IsGathered, RanAt, pause_of, stopped_answer, unread_answer}
 use Rattle.portfolio_run.specs.Resumed.{cell_of, dropped_of, kept_of, AreLeftAfter, WasStopped, WentOn}
 use Rattle.portfolio_run.specs.Room.{layout_of}
 use Rattle.portfolio_run.specs.Ruled.{schedule_of}
@@ -196,26 +196,13 @@ module _ {S : Type 0} {d : Ghosts S} (written flushed target : S → Option (Lis
 
       -- Nothing was told, for want of memory
 
-      memory_reached : IsReached plan F Memory tally (faults sink) (faults b.log.lines.sink) J
-      memory_reached =
-          let r : IsReached plan F Memory tally (faults sink) (faults sink) J = no_memory plan F tally None J rested (faults sink) (faults sink) passed.going refl in
-          record {
-            stands = r.stands;
-            ruled = r.ruled;
-            held = r.held;
-            rulings = r.rulings;
-            again = r.again;
-            stop = r.stop;
-            holds = r.holds;
-            through = r.through;
-            faults_fit = record {
-              rose = λ e. absurd (let k = some_same STOP_MEMORY STOP_PROOF e in omega arith);
-              calm = λ ne. dite (ℕ_discrete plan.threads 1) (λ one. inl (still (calm_alone fault tells one))) (λ other. inr (two_or_more plan.threads rings other, through_still plan F vars stack tally done (run s) was.runs J passed more));
-            };
-          }
-
-      pub closed_memory : HasReached written flushed target faults sink plan F Memory tally b
-      closed_memory = record { journal = J; records = book_records; reached = memory_reached; asked = λ _. asked }
+      closed_memory : fault ≡ false → HasReached written flushed target faults sink plan F Memory tally b
+      closed_memory unbroken = record {
+        journal = J;
+        records = book_records;
+        reached = no_memory plan F tally None J rested (faults sink) (faults b.log.lines.sink) passed.going (still unbroken);
+        asked = λ _. asked;
+      }
 
       -- A line had failed
 
@@ -226,6 +213,13 @@ module _ {S : Type 0} {d : Ghosts S} (written flushed target : S → Option (Lis
         reached = failed plan F tally None J rested (faults sink) (faults b.log.lines.sink) (subst (λ (n : ℕ). Rose n (faults b.log.lines.sink)) book_records.faults_are (book_records.log.cut (stands.faulty ∙ broken)).rose);
         asked = λ _. asked;
       }
+
+      -- either, as nothing was told for want of memory
+      pub closed_unread : HasReached written flushed target faults sink plan F (unread_answer b.log.lines.spent) tally b
+      closed_unread = elim (cases_Bool fault) as (λ _. HasReached written flushed target faults sink plan F (unread_answer b.log.lines.spent) tally b) [
+        | inl q ↦ subst (λ (failed : Bool). HasReached written flushed target faults sink plan F (unread_answer failed) tally b) (sym (stands.faulty ∙ q)) (closed_broken q)
+        | inr q ↦ subst (λ (failed : Bool). HasReached written flushed target faults sink plan F (unread_answer failed) tally b) (sym (stands.faulty ∙ q)) (closed_memory q)
+      ]
 
       -- None had
 

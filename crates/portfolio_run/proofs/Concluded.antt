@@ -191,7 +191,7 @@ module _ {S : Type 0} {d : Ghosts S} (written flushed target : S → Option (Lis
               through = λ _. h.ruled;
               faults_fit = record {
                 rose = λ e. sink_failed (h.rose (fault_kind answer e));
-                calm = λ ne. dite (ℕ_discrete plan.threads 1) (λ one. inl (sink_still (h.calm one ne))) (λ more. inr (two_or_more plan.threads some_ring more, h.ruled));
+                calm = λ ne. dite (ℕ_discrete plan.threads 1) (λ one. inl (sink_still (h.calm one ne))) (λ more. inr (two_or_more plan.threads some_ring more, h.running, h.ruled));
               };
             };
             asked = λ _. asked;

@@ -49,7 +49,7 @@ use Rattle.portfolio_run.specs.declared.answer.Answer.{Answer}
 use Rattle.portfolio_run.specs.declared.answer.Answer.TheVariants.{Unknown, ProofFault, Memory}
 use Rattle.portfolio_run.specs.declared.plan.Plan.{Plan}
 use Rattle.portfolio_run.specs.Ends.{set_of}
-use Rattle.portfolio_run.specs.Held.{IsTallied, IsRoundTallied, AreTallied, RestsBetween, RanWithin, IsHeld, HasStop, NeverGone, no_counts, add_tallies}
+use Rattle.portfolio_run.specs.Held.{IsTallied, IsRoundTallied, AreTallied, RestsBetween, RanWithin, IsHeld, HasStop, NeverGone, IsRunning, no_counts, add_tallies}
 use Rattle.portfolio_run.specs.Journaled.{IsJournal, IsUnrefuted}
 use Rattle.portfolio_run.specs.Pauses.{Pause, IsPaused, IsSmall}
 use Rattle.portfolio_run.specs.Reached.{RanAt}
@@ -80,6 +80,7 @@ pub record IsDecided (plan : Plan) (F : FormulaData) (answer : Answer) (tally : 
   pub held : IsHeld plan.threads plan.slots plan.round plan.conflicts F.clauses J tally
   pub rulings : List Ruling
   pub again : HasRuledBetween (schedule_of plan) ruled.ruled.work held rulings
+  pub running : IsRunning held
   pub stop : HasStop held (kind_of answer)
   pub holds : Holds plan (work_after ruled.ruled.work rulings).vars F J held answer
   pub rose : answer ≡ ProofFault → Failed
@@ -181,6 +182,7 @@ module _ (p : Pause) (was : IsPaused p) (limit : ℕ) (l : Layout) (origin : Boo
         held = held;
         rulings = was.rulings;
         again = went_on F.clauses (schedule_of plan) was.first.work was.runs was.mine (Some beginning) was.rulings was.again;
+        running = λ e. cc e;
         stop = (λ e. absurd (let k = some_same STOP_MEMORY STOP_SAT e in omega arith), λ e. none_some STOP_MEMORY (sym e));
         holds = unsettled wide J0 beginning K threads o t plan.slots plan.round plan.conflicts tally held 0 some_ring never (ap (λ (I : List Entry). list_any is_empty (added I)) none_there);
         rose = λ e. cc e;
@@ -318,7 +320,7 @@ module _ (p : Pause) (was : IsPaused p) (limit : ℕ) (l : Layout) (origin : Boo
     unfolding ran_within
     decided Failed Calm answer stop holds rose calm =
         subst (IsDecided plan F answer tally Failed Calm) (sym g.journal_is)
-        (record { stands = journal_stands wide J0 beginning K plan.threads (starts_from v) t; ruled = through_then p was K; held = inr ran_within; rulings = was.rulings; again = ruled_over p was limit l K w s g; stop = ap (λ (c : State). option_map (λ (y : Stop). y.kind) c.stop) (left_is p was limit l K w s g) ∙ stop; holds = holds; rose = rose; calm = calm })
+        (record { stands = journal_stands wide J0 beginning K plan.threads (starts_from v) t; ruled = through_then p was K; held = inr ran_within; rulings = was.rulings; again = ruled_over p was limit l K w s g; running = tt; stop = ap (λ (c : State). option_map (λ (y : Stop). y.kind) c.stop) (left_is p was limit l K w s g) ∙ stop; holds = holds; rose = rose; calm = calm })
 
     -- if the ring is alone and its port can be used, no write has failed
     calm_at : (r : ℕ) (lt : r < plan.threads) → plan.threads ≡ 1 → length w.parts ≡ plan.threads → (fault : Bool) → TellsFaults w.parts fault → is_usable (port_at r lt).refused ≡ true → fault ≡ false

@@ -103,3 +103,8 @@ NeverGone {rings} {slots} {every} {most} {clauses} {journal} (inr ran) ring = ((
 abbrev pub HasStop : {rings slots : ℕ} {every : Option ℕ} {most : ℕ} {clauses : List (List Literal)} {journal : List Entry} {tally : List Counts} → IsHeld rings slots every most clauses journal tally → Option ℕ → Type 0
 HasStop (inl rests) kind = (kind ≢ Some STOP_SAT) × (kind ≢ None)
 HasStop (inr ran) kind = option_map (λ stop. stop.kind) (left_by ran.last).stop ≡ kind
+
+-- the last round has begun: its rings ran, or were to run
+abbrev pub IsRunning : {rings slots : ℕ} {every : Option ℕ} {most : ℕ} {clauses : List (List Literal)} {journal : List Entry} {tally : List Counts} → IsHeld rings slots every most clauses journal tally → Type 0
+IsRunning (inl rests) = rests.begun ≢ None
+IsRunning (inr ran) = ⊤

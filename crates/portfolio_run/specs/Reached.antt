@@ -1,6 +1,6 @@
 -- What is known before the proof is finished: of the book, of the answer, of the ruler and of the rings.
 use Rattle.io_edge.specs.declared.edge.Sink.{Ghosts}
-use Rattle.std.specs.Prelude.{◌≡◌, ◌≤◌, ◌<◌, ◌^◌, ◌+◌, ℕ, false, List, [], length, slice_index_or, Option, Some, is_some, Result, All}
+use Rattle.std.specs.Prelude.{◌≡◌, ◌≤◌, ◌<◌, ◌^◌, ◌+◌, ℕ, Bool, false, if◌then◌else◌, List, [], length, slice_index_or, Option, Some, is_some, Result, All}
 use mathlib.Core.Option.{some}
 use lib.ListN.{get_elem?}
 use Rattle.atomic_table.specs.declared.shared.Seat.{Seat}
@@ -76,6 +76,10 @@ stopped_answer line_stop.Memory = Memory
 abbrev pub unmade_answer : HoleStop → Answer
 unmade_answer (hole_stop.NoHole need largest) = NoHole (record { need = need; largest = largest })
 unmade_answer hole_stop.Memory = Memory
+
+-- the answer where memory ran out as what a round's table held was read: a line may have failed before
+abbrev pub unread_answer : (failed : Bool) → Answer
+unread_answer failed = if failed then ProofFault else Memory
 
 -- an answer over the journal to which the book has come since it had this sink; unless a line failed, lines are kept where that was
 -- asked for

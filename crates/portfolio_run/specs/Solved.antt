@@ -19,7 +19,7 @@ use Rattle.ring_run.specs.declared.job.Counts.{Counts}
 use Rattle.portfolio_run.specs.declared.answer.Answer.{Answer}
 use Rattle.portfolio_run.specs.declared.answer.Answer.TheVariants.{Sat, Unsat, Unknown, NoHole, ProofFault, Memory}
 use Rattle.portfolio_run.specs.declared.plan.Plan.{Plan}
-use Rattle.portfolio_run.specs.Held.{IsHeld, HasStop, NeverGone}
+use Rattle.portfolio_run.specs.Held.{IsHeld, HasStop, NeverGone, IsRunning}
 use Rattle.portfolio_run.specs.Journaled.{IsJournal, IsUnrefuted, IsCutShort}
 use Rattle.portfolio_run.specs.Room.{HasNoRoom}
 use Rattle.portfolio_run.specs.Ruled.{schedule_of, IsRuled, IsRuledThrough}
@@ -84,10 +84,10 @@ kind_of ProofFault = Some STOP_PROOF
 kind_of Memory = Some STOP_MEMORY
 
 -- where a search that comes to this kind of stop has met a fault of the proof, the sink has failed by then; at each other kind no
--- line had failed, unless two rings or more ran beside each other after a ruler that was done before the first round
-pub record FaultsFit (plan : Plan) (formula : FormulaData) (journal : List Entry) (before searched : ℕ) (kind : Option ℕ) : Type 0 where
+-- line had failed, unless two rings or more ran beside each other, or were to run, in a round that has begun
+pub record FaultsFit (plan : Plan) (formula : FormulaData) (journal : List Entry) {tally : List Counts} (held : IsHeld plan.threads plan.slots plan.round plan.conflicts formula.clauses journal tally) (before searched : ℕ) (kind : Option ℕ) : Type 0 where
   pub rose : kind ≡ Some STOP_PROOF → Rose before searched
-  pub calm : kind ≢ Some STOP_PROOF → (searched ≡ before) ⊎ ((2 ≤ plan.threads) × IsRuledThrough formula (schedule_of plan) journal)
+  pub calm : kind ≢ Some STOP_PROOF → (searched ≡ before) ⊎ ((2 ≤ plan.threads) × IsRunning held × IsRuledThrough formula (schedule_of plan) journal)
 
 -- a search has come to this answer, which holds, over this journal: it begins with what the ruler wrote in the plan's rounds, and
 -- rounds of the rings leave it, with the stop of this answer, or they rest after what the ruler wrote since; after each round of the
@@ -103,7 +103,7 @@ pub record IsReached (plan : Plan) (formula : FormulaData) (answer : Answer) (ta
   pub stop : HasStop held (kind_of answer)
   pub holds : Holds plan (work_after ruled.work rulings).vars formula journal held answer
   pub through : is_verdict answer ≡ true → IsRuledThrough formula (schedule_of plan) journal
-  pub faults_fit : FaultsFit plan formula journal before searched (kind_of answer)
+  pub faults_fit : FaultsFit plan formula journal held before searched (kind_of answer)
 
 -- the answer that is known is that of the search, or in the place of a verdict, where the sink has failed, a fault of the proof; a
 -- verdict is known only if it has not

@@ -7,7 +7,7 @@ ghost use Rattle.core_rounds.specs.InRounds.{round_limit};
 ghost use Rattle.ring_run.specs.declared.job.Counts.{Counts as CountsData};
 ghost use Rattle.portfolio_run.specs.Held.{no_counts};
 ghost use Rattle.portfolio_run.specs.Pauses.{Pause, IsPaused, IsPausedAt};
-ghost use Rattle.portfolio_run.specs.Reached.{HasReached, pause_of};
+ghost use Rattle.portfolio_run.specs.Reached.{HasReached, pause_of, unread_answer};
 ghost use Rattle.portfolio_run.specs.Tables.{IsOpened, WasSpent};
 ghost use Rattle.portfolio_run.specs.declared.answer.Answer.TheVariants as answer;
 
@@ -75,6 +75,16 @@ fn is_passed(found: &Answer, done: u64, plan: &Plan) -> bool
     matches!(found, Answer::Unknown) && done < plan.conflicts
 }
 
+/// The answer if memory ran out as what a round's table held was read: a line that failed before is told first.
+fn unread_answer<S: Sink>(book: &Book<S>) -> Answer
+    ensures { result ≡ unread_answer book.now.log.lines.spent }
+{
+    if book.is_broken() {
+        return Answer::ProofFault;
+    }
+    Answer::Memory
+}
+
 /// Takes the table of a spent round apart, and lets the ruler go on with what it held: the rings rest again, or the run ends.
 fn pause<S: Sink>(
     alloc: Global,
@@ -105,9 +115,10 @@ fn pause<S: Sink>(
     let ClosedTable { book, rests, units } = match close_round(alloc, table, first) {
         Ok(closed) => closed,
         Err(refused) => {
+            let book = refused.value;
             return Err(Ended {
-                answer: Answer::Memory,
-                book: refused.value,
+                answer: unread_answer(&book),
+                book,
                 tally,
             });
         }

@@ -45,7 +45,7 @@ use Rattle.top_call.specs.Outcome.{RunOutcome, IsRun, IsUnread, IsStarted, IsVer
 use Rattle.top_call.proofs.Journals.{empty_log}
 use Rattle.top_call.proofs.Checks.{kept_accepted}
 use Rattle.top_call.proofs.Models.{cleared, has_both, both}
-use Rattle.top_call.proofs.Tallies.{each_counted, long_each, sizes, held_each, stop_each, ruled_each, holds_each, are_learned, counted_is}
+use Rattle.top_call.proofs.Tallies.{each_counted, long_each, sizes, held_each, stop_each, ruled_each, faults_each, holds_each, are_learned, counted_is}
 
 -- a formula for a run that reads none
 abbrev pub no_formula : FormulaData
@@ -152,7 +152,7 @@ started plan text source out F a counts tally faults flushed written kept s give
         again = ruled_each (schedule_of plan.search) s.reached.ruled.work rings slots every limit F.clauses s.journal counts s.reached.held s.reached.rulings s.reached.again;
         stop = stop_each rings slots every limit F.clauses s.journal counts s.reached.held (kind_of s.found) s.reached.stop;
         searched = s.searched;
-        faults_fit = s.reached.faults_fit;
+        faults_fit = faults_each plan.search F s.journal counts s.reached.held 0 s.searched (kind_of s.found) s.reached.faults_fit;
         log = log_of plan.search.format F s.journal a s.searched faults flushed written s.finished;
         tally_is = is;
         learned = subst (λ (t : Tally). AreLearned rings limit s.journal t.learned) (sym is) (are_learned rings slots every limit F.clauses s.journal (each_counted rings counts) held long);
@@ -196,8 +196,8 @@ fault_found plan vars F J counts held answer.Memory occurring faults occurs t ho
 ]
 
 -- and the sink has failed
-fault_rose : (plan : SearchPlan) (F : FormulaData) (J : List Entry) (found : Answer) (searched faults : ℕ) → IsTold found answer.ProofFault 0 faults → FaultsFit plan F J 0 searched (kind_of found) → searched ≤ faults → Rose 0 faults
-fault_rose plan F J found searched faults t fit later = elim t.ends [
+fault_rose : (plan : SearchPlan) (F : FormulaData) (J : List Entry) (tally : List Counts) (held : IsHeld plan.threads plan.slots plan.round plan.conflicts F.clauses J tally) (found : Answer) (searched faults : ℕ) → IsTold found answer.ProofFault 0 faults → FaultsFit plan F J held 0 searched (kind_of found) → searched ≤ faults → Rose 0 faults
+fault_rose plan F J tally held found searched faults t fit later = elim t.ends [
   | inl e ↦ (let rose : Rose 0 searched = fit.rose (ap kind_of (sym e)) in omega (arith, rose, later))
   | inr h ↦ h.1
 ]
@@ -237,7 +237,7 @@ stopped end plan text source out F a counts faults flushed written kept occurrin
       kind = kind_of s.found;
       started = began.0;
       failed = fault_found plan.search (work_after s.reached.ruled.work s.reached.rulings).vars F s.journal counts s.reached.held s.found occurring faults occurs t s.reached.holds s.reached.through;
-      rose = fault_rose plan.search F s.journal s.found s.searched faults t s.reached.faults_fit later;
+      rose = fault_rose plan.search F s.journal _ s.reached.held s.found s.searched faults t s.reached.faults_fit later;
     })
     by answer.Memory i t =
         let k = at_kind answer.Memory (told_found s.found answer.Memory 0 faults t (λ e. cc e)) in

@@ -29,7 +29,7 @@ use Rattle.portfolio_run.specs.declared.plan.Plan.{Plan as SearchPlan}
 use Rattle.portfolio_run.specs.Held.{RestsBetween, IsHeld, HasStop, NeverGone, AreTallied, add_tallies, total, no_counts}
 use Rattle.portfolio_run.specs.Room.{HasNoRoom}
 use Rattle.portfolio_run.specs.Rulings.{Ruling, HasRuledBetween}
-use Rattle.portfolio_run.specs.Solved.{IsUnsettled, Holds}
+use Rattle.portfolio_run.specs.Solved.{FaultsFit, IsUnsettled, Holds}
 use Rattle.portfolio_run.specs.Spent.{LearnedAll}
 use Rattle.top_call.specs.declared.report.Tally.{Tally}
 use Rattle.top_call.specs.Tallied.{no_lack, zero_tally, rings_tally, over, counted, HasRings, AreLearned}
@@ -116,6 +116,13 @@ pub ruled_each : (schedule : Schedule) (first : WorkState) (rings slots : ℕ) (
 unfolding held_each
 ruled_each schedule first rings slots every limit F J counts (inl h) rulings again = again
 ruled_each schedule first rings slots every limit F J counts (inr h) rulings again = again
+
+-- when a line failed
+pub faults_each : (plan : SearchPlan) (F : FormulaData) (J : List Entry) (counts : List Counts) (held : IsHeld plan.threads plan.slots plan.round plan.conflicts F.clauses J counts) (before searched : ℕ) (kind : Option ℕ)
+    → FaultsFit plan F J held before searched kind → FaultsFit plan F J (held_each plan.threads plan.slots plan.round plan.conflicts F.clauses J counts held) before searched kind
+unfolding held_each
+faults_each plan F J counts (inl h) before searched kind fit = record { rose = fit.rose; calm = fit.calm }
+faults_each plan F J counts (inr h) before searched kind fit = record { rose = fit.rose; calm = fit.calm }
 
 -- and as much left to settle
 unsettled_each : (rings slots : ℕ) (every : Option ℕ) (limit : ℕ) (F : List (List Literal)) (J : List Entry) (counts : List Counts) (held : IsHeld rings slots every limit F J counts) → IsUnsettled held → IsUnsettled (held_each rings slots every limit F J counts held)

@@ -73,7 +73,7 @@ pub record IsStarted (kind : Option ℕ) (lack : NoRoom) (formula : FormulaData)
   pub again : HasRuledBetween (schedule_of run.plan.search) ruled.work held rulings
   pub stop : HasStop held kind
   pub searched : ℕ
-  pub faults_fit : FaultsFit run.plan.search formula journal 0 searched kind
+  pub faults_fit : FaultsFit run.plan.search formula journal held 0 searched kind
   pub log : HasLog formula journal searched run
   pub tally_is : tally ≡ rings_tally counts lack
   pub learned : AreLearned run.plan.search.threads run.plan.search.conflicts journal tally.learned

@@ -1,7 +1,7 @@
 use Rattle.std.proofs.Common.{◌∙◌, sym, ap, subst, Ok}
 use Rattle.portfolio_run.specs.Reached.{HasReached}
 use Rattle.portfolio_run.specs.declared.answer.Answer.{Answer}
-use Rattle.portfolio_run.proofs.Closed.{built, closed_memory, closed_broken, left_after, over_stopped, over_refuted, paused_again}
+use Rattle.portfolio_run.proofs.Closed.{built, closed_broken, closed_unread, left_after, over_stopped, over_refuted, paused_again}
 use Rattle.portfolio_run.proofs.rounds.pause.Goals as goal
 
 pub close_round-requires-clause-built : goal.close_round-requires-clause-built
@@ -15,8 +15,9 @@ returns-in-Err-clause-over g c =
     let a = c.args in
     let r = c.requires.1 in
     let t = c.in-Err.ensures.back in
-    closed_memory g.S.Sink.written g.S.Sink.flushed g.S.Sink.target g.S.Sink.faults g.known a.plan.now a.formula.now r.1.1.1.0 r.0.0 r.0.1 r.1.1.1.1.0 a.vars a.stack a.tally.items a.done a.table a.first r.1.1.1.1.1.0
-    t.0 r.1.1.1.1.1.1.0 c.in-Err.refused.value t.1 t.2 t.3
+    subst (λ (x : Answer). HasReached g.S.Sink.written g.S.Sink.flushed g.S.Sink.target g.S.Sink.faults g.known a.plan.now a.formula.now x a.tally.items c.in-Err.refused.value) (sym c.unread_answer.ensures)
+    (closed_unread g.S.Sink.written g.S.Sink.flushed g.S.Sink.target g.S.Sink.faults g.known a.plan.now a.formula.now r.1.1.1.0 r.0.0 r.0.1 r.1.1.1.1.0 a.vars a.stack a.tally.items a.done a.table a.first r.1.1.1.1.1.0
+    t.0 r.1.1.1.1.1.1.0 c.in-Err.refused.value t.1 t.2 t.3)
 
 pub returns-then-is_broken-clause-over : goal.returns-then-is_broken-clause-over
 returns-then-is_broken-clause-over g c =

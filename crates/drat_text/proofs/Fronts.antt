@@ -1,8 +1,8 @@
 -- A front of the bytes of some lines ends in one of them.
 use Rattle.std.proofs.Common.{◌≡◌, ◌∙◌, ℕ, List, [], ◌∷◌, ◌++◌, length, take, refl, ap, sym, append_assoc, append-nil, ◌⊎◌, inl, inr, arith}
 use Rattle.std.proofs.lemmas.List.{take_all}
-use Rattle.sat_words.specs.declared.line.Line.{Line}
 use Rattle.sat_words.specs.declared.line.ProofFormat.{ProofFormat}
+use Rattle.rup_model.specs.NumberedLines.{NumberedLine}
 use Rattle.drat_text.specs.Spelling.{spelling, proof_bytes}
 use Rattle.drat_text.specs.Front.{IsCutText}
 
@@ -23,21 +23,21 @@ ends (x ∷ front) rest (y ∷ a) b e =
 
 module _ (f : ProofFormat) where
   -- it ends within the first line
-  here : (y : Line) (others : List Line) (front : List ℕ) → front ≡ take (length front) (spelling f y) → IsCutText f (y ∷ others) front
+  here : (y : NumberedLine) (others : List NumberedLine) (front : List ℕ) → front ≡ take (length front) (spelling f y) → IsCutText f (y ∷ others) front
   here y others front e = record { first = []; line = y; others = others; cut = length front; split = refl; ends = e }
 
-  later : (y : Line) (lines : List Line) (front more : List ℕ) → front ≡ spelling f y ++ more → IsCutText f lines more → IsCutText f (y ∷ lines) front
+  later : (y : NumberedLine) (lines : List NumberedLine) (front more : List ℕ) → front ≡ spelling f y ++ more → IsCutText f lines more → IsCutText f (y ∷ lines) front
   later y lines front more e t = record {
     first = y ∷ t.first;
     line = t.line;
     others = t.others;
     cut = t.cut;
-    split = ap (λ (xs : List Line). y ∷ xs) t.split;
+    split = ap (λ (xs : List NumberedLine). y ∷ xs) t.split;
     ends = e ∙ ap (λ (xs : List ℕ). spelling f y ++ xs) t.ends ∙ sym (append_assoc (spelling f y) (proof_bytes f t.first) (take t.cut (spelling f t.line)));
   }
 
   -- nothing stands after the last line
-  last : (x : Line) (front rest : List ℕ) → Ends front rest (spelling f x) [] → IsCutText f (x ∷ []) front
+  last : (x : NumberedLine) (front rest : List ℕ) → Ends front rest (spelling f x) [] → IsCutText f (x ∷ []) front
   last x front rest (inl e) = here x [] front e
   last x front rest (inr (more, e, none)) = here x [] front (all more e none)
     where
@@ -47,7 +47,7 @@ module _ (f : ProofFormat) where
           same ∙ sym (take_all (length front) (spelling f x) (omega (arith, ap (λ (xs : List ℕ). length xs) same)))
       all (b ∷ more) e none = absurd (let no : ⊥ = cc in no)
 
-  pub cut_text : (L : List Line) (x : Line) (front rest : List ℕ) → front ++ rest ≡ proof_bytes f (L ++ x ∷ []) → IsCutText f (L ++ x ∷ []) front
+  pub cut_text : (L : List NumberedLine) (x : NumberedLine) (front rest : List ℕ) → front ++ rest ≡ proof_bytes f (L ++ x ∷ []) → IsCutText f (L ++ x ∷ []) front
   cut_text [] x front rest e = last x front rest (ends front rest (spelling f x) [] e)
   cut_text (y ∷ L) x front rest e =
       elim (ends front rest (spelling f y) (proof_bytes f (L ++ x ∷ [])) e) as (λ _. IsCutText f (y ∷ L ++ x ∷ []) front) [

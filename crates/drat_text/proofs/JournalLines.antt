@@ -9,6 +9,8 @@ use Rattle.sat_words.specs.declared.line.Line.{Line}
 use Rattle.rup_model.specs.declared.journal.Entry.{Entry}
 use Rattle.rup_model.specs.Log.{Accepted, lits_of}
 use Rattle.rup_model.specs.Journal.{Book, formula_book, book_after, book, lines, lines_after, lines_from}
+use Rattle.rup_model.specs.NumberedLines.{NumberedLine, line_of, numbered_after, numbered_from}
+use Rattle.rup_model.proofs.Lines.{numbered_from_next, one_line, no_line}
 use Rattle.io_edge.specs.Causes.{Rose}
 use Rattle.io_edge.proofs.Growth.{append_known-append}
 use Rattle.sat_words.specs.declared.line.ProofFormat.{ProofFormat}
@@ -17,7 +19,11 @@ use Rattle.drat_text.specs.LineState.{LineState, with_lines}
 use Rattle.drat_text.specs.LineOut.{PutLine, FailedLine}
 use Rattle.drat_text.specs.JournalText.{Origin, later_lines, later_bytes, HasText, HasTextCut}
 
-pub bytes_last : (f : ProofFormat) (L : List Line) (x : Line) → proof_bytes f (L ++ x ∷ []) ≡ proof_bytes f L ++ spelling f x
+-- the later entries' lines, with numbers and hints
+abbrev later_numbered : Origin → List Entry → List NumberedLine
+later_numbered o mine = numbered_from (book o.formula o.journal) mine
+
+pub bytes_last : (f : ProofFormat) (L : List NumberedLine) (x : NumberedLine) → proof_bytes f (L ++ x ∷ []) ≡ proof_bytes f L ++ spelling f x
 bytes_last f [] x = append-nil (spelling f x)
 bytes_last f (y ∷ L) x = ap (λ t. spelling f y ++ t) (bytes_last f L x) ∙ sym (append_assoc (spelling f y) (proof_bytes f L) (spelling f x))
 
@@ -50,27 +56,36 @@ module _ (o : Origin) (mine : List Entry) where
   later_next e L has =
       lines_from_next (book o.formula o.journal) mine e L (ap (λ k. lines_after k e) (sym (fold-append book_after (formula_book o.formula) o.journal mine)) ∙ has)
 
+  numbered_next : (e : Entry) (L : List NumberedLine) → numbered_after (book o.formula (o.journal ++ mine)) e ≡ L → later_numbered o (mine ++ e ∷ []) ≡ later_numbered o mine ++ L
+  numbered_next e L has =
+      numbered_from_next (book o.formula o.journal) mine e L (ap (λ k. numbered_after k e) (sym (fold-append book_after (formula_book o.formula) o.journal mine)) ∙ has)
+
   -- an entry without a line came
   pub has_text_still : (a : LineState) (e : Entry) → lines_after (book o.formula (o.journal ++ mine)) e ≡ [] → HasText o mine a → HasText o (mine ++ e ∷ []) a
   has_text_still a e none was =
       let same : later_lines o (mine ++ e ∷ []) ≡ later_lines o mine = later_next e [] none ∙ append-nil (later_lines o mine) in
+      let alike : later_numbered o (mine ++ e ∷ []) ≡ later_numbered o mine =
+      numbered_next e [] (no_line (book o.formula (o.journal ++ mine)) e none) ∙ append-nil (later_numbered o mine) in
       record {
         quiet = was.quiet;
         format = was.format;
-        bytes = was.bytes ∙ ap (λ (L : List Line). append_known o.output.written (proof_bytes o.output.format L)) (sym same);
+        bytes = was.bytes ∙ ap (λ (L : List NumberedLine). append_known o.output.written (proof_bytes o.output.format L)) (sym alike);
         kept = was.kept ∙ ap (with_lines o.output.kept) (sym same);
       }
 
-module _ (o : Origin) (mine : List Entry) (a b : LineState) (x : Line) (was : HasText o mine a) where
+module _ (o : Origin) (mine : List Entry) (a b : LineState) (x : NumberedLine) (was : HasText o mine a) where
   -- how the line is spelled
   abbrev word : List ℕ
   word = spelling o.output.format x
 
   -- the line stands
-  pub has_text_next : (e : Entry) → lines_after (book o.formula (o.journal ++ mine)) e ≡ x ∷ [] → (number : ℕ) → PutLine a b x number → HasText o (mine ++ e ∷ []) b
-  has_text_next e one number put =
-      let more : later_lines o (mine ++ e ∷ []) ≡ later_lines o mine ++ x ∷ [] = later_next o mine e (x ∷ []) one in
-      let next : later_bytes o (mine ++ e ∷ []) ≡ later_bytes o mine ++ word = ap (proof_bytes o.output.format) more ∙ bytes_last o.output.format (later_lines o mine) x in
+  pub has_text_next : (e : Entry) → numbered_after (book o.formula (o.journal ++ mine)) e ≡ x ∷ [] → PutLine a b x → HasText o (mine ++ e ∷ []) b
+  has_text_next e one put =
+      let line = line_of x in
+      let more : later_lines o (mine ++ e ∷ []) ≡ later_lines o mine ++ line ∷ [] =
+      later_next o mine e (line ∷ []) (one_line (book o.formula (o.journal ++ mine)) e x one) in
+      let next : later_bytes o (mine ++ e ∷ []) ≡ later_bytes o mine ++ word =
+      ap (proof_bytes o.output.format) (numbered_next o mine e (x ∷ []) one) ∙ bytes_last o.output.format (later_numbered o mine) x in
       record {
         quiet = ap (λ (s : LineState). s.faults) put.state ∙ was.quiet;
         format = ap (λ (s : LineState). s.format) put.state ∙ was.format;
@@ -78,12 +93,12 @@ module _ (o : Origin) (mine : List Entry) (a b : LineState) (x : Line) (was : Ha
             ap (λ (s : LineState). s.written) put.state ∙ (λ i. append_known (was.bytes i) (spelling (was.format i) x))
             ∙ append_known-append o.output.written (later_bytes o mine) word ∙ ap (append_known o.output.written) (sym next);
         kept =
-            ap (λ (s : LineState). s.kept) put.state ∙ ap (λ k. with_lines k (x ∷ [])) was.kept
-            ∙ with_both o.output.kept (later_lines o mine) (x ∷ []) ∙ ap (with_lines o.output.kept) (sym more);
+            ap (λ (s : LineState). s.kept) put.state ∙ ap (λ k. with_lines k (line ∷ [])) was.kept
+            ∙ with_both o.output.kept (later_lines o mine) (line ∷ []) ∙ ap (with_lines o.output.kept) (sym more);
       }
 
   -- the output failed at the line
-  pub has_text_cut : Accepted o.formula (lines o.formula (o.journal ++ mine) ++ x ∷ []) → (vars : ℕ) → All (IsOn vars) (lits_of x) → FailedLine a b x → HasTextCut o mine vars b
+  pub has_text_cut : Accepted o.formula (lines o.formula (o.journal ++ mine) ++ line_of x ∷ []) → (vars : ℕ) → All (IsOn vars) (lits_of (line_of x)) → FailedLine a b x → HasTextCut o mine vars b
   has_text_cut accepted vars on failed = record {
     line = x;
     accepted = accepted;

@@ -1,15 +1,14 @@
--- The literals of a line, spelled one by one.
+-- The literals of a line, or its hints, spelled one by one.
 use Rattle.std.proofs.Common.{◌≡◌, ◌∙◌, ℕ, ◌+◌, ◌<◌, List, [], ◌∷◌, ◌++◌, length, get_or, take, drop, take-append-drop, append_assoc, append-nil, ap, sym}
 use Rattle.std.specs.List.{flat_map}
 use Rattle.std.proofs.lemmas.List.{take_more}
 use Rattle.std.proofs.lemmas.List.Concat.{flat_map-append}
-use Rattle.sat_words.specs.Literal.{Literal}
 
-module _ (word : Literal → List ℕ) (lits : List Literal) (i : ℕ) (lit : Literal) (low : i < length lits) (is : lit ≡ get_or lits i lit) where
+module _ {X : Type 0} (word : X → List ℕ) (lits : List X) (i : ℕ) (lit : X) (low : i < length lits) (is : lit ≡ get_or lits i lit) where
   -- the literals before a place, and one more
   pub words_more : flat_map word (take (i + 1) lits) ≡ flat_map word (take i lits) ++ word lit
   words_more =
-      ap (flat_map word) (take_more lits i lit low ∙ ap (λ (x : Literal). take i lits ++ x ∷ []) (sym is))
+      ap (flat_map word) (take_more lits i lit low ∙ ap (λ (x : X). take i lits ++ x ∷ []) (sym is))
       ∙ flat_map-append word (take i lits) (lit ∷ [])
       ∙ ap (λ (xs : List ℕ). flat_map word (take i lits) ++ xs) (append-nil (word lit))
 

@@ -6,6 +6,7 @@ use Rattle.sat_words.specs.declared.line.Line.{Line}
 use Rattle.rup_model.specs.declared.journal.Entry.{Entry}
 use Rattle.rup_model.specs.Log.{Accepted, lits_of}
 use Rattle.rup_model.specs.Journal.{book, lines, lines_from}
+use Rattle.rup_model.specs.NumberedLines.{NumberedLine, line_of, numbered_from}
 use Rattle.io_edge.specs.Bytes.{IsFront}
 use Rattle.io_edge.specs.Causes.{Rose}
 use Rattle.drat_text.specs.Spelling.{spelling, proof_bytes}
@@ -23,7 +24,7 @@ later_lines o mine = lines_from (book o.formula o.journal) mine
 
 -- the bytes of these lines
 abbrev pub later_bytes : Origin → List Entry → List ℕ
-later_bytes o mine = proof_bytes o.output.format (later_lines o mine)
+later_bytes o mine = proof_bytes o.output.format (numbered_from (book o.formula o.journal) mine)
 
 -- the output has the bytes of the later lines in its format, keeps them if it keeps lines, and has not failed since
 pub record HasText (o : Origin) (mine : List Entry) (out : LineState) : Type 0 where
@@ -35,8 +36,8 @@ pub record HasText (o : Origin) (mine : List Entry) (out : LineState) : Type 0 w
 -- the output failed at a line that is accepted after the others and is on the variables; what was written is a front of
 -- the bytes of all of them
 pub record HasTextCut (o : Origin) (mine : List Entry) (vars : ℕ) (out : LineState) : Type 0 where
-  pub line : Line
-  pub accepted : Accepted o.formula (lines o.formula (o.journal ++ mine) ++ line ∷ [])
-  pub on : All (IsOn vars) (lits_of line)
+  pub line : NumberedLine
+  pub accepted : Accepted o.formula (lines o.formula (o.journal ++ mine) ++ line_of line ∷ [])
+  pub on : All (IsOn vars) (lits_of (line_of line))
   pub rose : Rose o.output.faults out.faults
   pub front : IsFront out.written (append_known o.output.written (later_bytes o mine ++ spelling o.output.format line))

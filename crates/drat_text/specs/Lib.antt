@@ -1,5 +1,6 @@
 pub mod Text
 pub mod Binary
+pub mod Lrat
 pub mod Spelling
 pub mod Cut
 pub mod PieceCut

@@ -24,11 +24,6 @@ abbrev pub last_after : ℕ → Line → ℕ
 last_after n (Add lits) = n + 1
 last_after n (Del lits) = n
 
--- the number of the line: a deletion has none, which is known as 0
-abbrev pub number_given : ℕ → Line → ℕ
-number_given n (Add lits) = n + 1
-number_given n (Del lits) = 0
-
 -- lines that are kept, and these after them
 abbrev pub with_lines : Option (List Line) → List Line → Option (List Line)
 with_lines kept more = option_map (λ lines. lines ++ more) kept

@@ -14,28 +14,17 @@ use io_edge::{Failed, Sink, WriteStop};
 use sat_words::{Line, Lit};
 
 /// Begins the line of a clause that is added.
-const ADDED: u8 = b'a';
+pub(crate) const ADDED: u8 = b'a';
 
 /// Begins the line of a clause that is deleted.
-const DELETED: u8 = b'd';
+pub(crate) const DELETED: u8 = b'd';
 
 /// The most bytes of a literal and of the end.
 const WORD: usize = 6;
 
 impl<S: Sink> Blocks<S> {
-    /// Puts the line in binary DRAT.
-    pub(crate) fn put_binary_line(&mut self, line: &Line) -> Result<(), Failed>
-        requires room { length self.old.waiting < BLOCK }
-        ensures { MatchResult result (λ _. Gathers S.written S.flushed S.target S.faults self.old self.new (line_bytes line.now)) (λ _. Breaks S.written S.flushed S.target S.faults self.old self.new (line_bytes line.now)) }
-    {
-        match line {
-            Line::Add(lits) => self.put_marked(ADDED, lits.as_slice()),
-            Line::Del(lits) => self.put_marked(DELETED, lits.as_slice()),
-        }
-    }
-
     /// Puts the whole line, in one go if it has room at its longest.
-    fn put_marked(&mut self, mark: u8, lits: &[Lit]) -> Result<(), Failed>
+    pub(crate) fn put_marked(&mut self, mark: u8, lits: &[Lit]) -> Result<(), Failed>
         requires room { length self.old.waiting < BLOCK }
         ensures { MatchResult result (λ _. Gathers S.written S.flushed S.target S.faults self.old self.new (marked_bytes mark lits.now)) (λ _. Breaks S.written S.flushed S.target S.faults self.old self.new (marked_bytes mark lits.now)) }
     {

@@ -1,15 +1,20 @@
 // Bytes that gather before a sink, and are written in blocks.
 ghost use Rattle.std.specs.Prelude.{◌≡◌, ◌+◌, ◌*◌, ◌≤◌, ◌<◌, ◌++◌, [], true, None, codes, length, IfOk, IfErr, OnOk, OnErr, MatchResult};
+ghost use Rattle.std.specs.Fmt.{decimal};
 ghost use Rattle.io_edge.specs.Bytes.{IsFront};
 ghost use Rattle.io_edge.specs.Causes.{HasCause};
+ghost use Rattle.rup_model.specs.NumberedLines.{Added};
 ghost use Rattle.drat_text.specs.Binary.{marked_bytes};
 ghost use Rattle.drat_text.specs.Gathered.{bytes_in, Gathers, Breaks};
+ghost use Rattle.drat_text.specs.Lrat.{lrat_text};
 ghost use Rattle.drat_text.specs.Text.{lits_text};
 ghost use Rattle.drat_text.specs.declared.groups.TheConstants.{MOST};
 ghost use Rattle.drat_text.specs.declared.literals.TheConstants.{LONGEST};
+ghost use Rattle.drat_text.specs.declared.lrat.TheConstants.{WORD, DELETION};
 
 use crate::groups::write_marked;
 use crate::literals::write_rest;
+use crate::lrat::{write_addition, write_deletion};
 use io_edge::{Failed, Sink, write_all_of};
 use sat_words::Lit;
 use std::alloc::{AllocFailed, Global};
@@ -102,6 +107,24 @@ impl<S: Sink> Blocks<S> {
         ensures few { length self.new.waiting < BLOCK }
     {
         self.len = write_marked(self.bytes.as_mut_slice(), self.len, mark, lits);
+    }
+
+    /// Puts the line of an addition in LRAT. It is written where it is to stand.
+    pub(crate) fn push_addition(&mut self, number: u64, lits: &[Lit], hints: &[u64])
+        requires room { length self.old.waiting + WORD + LONGEST * length lits.now + WORD * length hints.now + 4 < BLOCK }
+        ensures put { self.new ≡ record { waiting = self.old.waiting ++ lrat_text (Added number lits.now hints.now); sink = self.old.sink } }
+        ensures few { length self.new.waiting < BLOCK }
+    {
+        self.len = write_addition(self.bytes.as_mut_slice(), self.len, number, lits, hints);
+    }
+
+    /// Puts the line of a deletion in LRAT. It is written where it is to stand.
+    pub(crate) fn push_deletion(&mut self, last: u64, number: u64)
+        requires room { length self.old.waiting + DELETION < BLOCK }
+        ensures put { self.new ≡ record { waiting = self.old.waiting ++ (decimal last ++ codes " d " ++ decimal number ++ codes " 0\n"); sink = self.old.sink } }
+        ensures few { length self.new.waiting < BLOCK }
+    {
+        self.len = write_deletion(self.bytes.as_mut_slice(), self.len, last, number);
     }
 
     /// Writes what waits. In either case nothing waits then.

@@ -130,3 +130,34 @@ pub(crate) fn write_number(bytes: &mut [u8], at: usize, number: u32) -> usize
     let middle = write_three(bytes, first, high % 1000);
     write_three(bytes, middle, number % 1000)
 }
+
+/// Writes the digits of a number below 10^15 from a place on.
+fn write_middle(bytes: &mut [u8], at: usize, number: u64) -> usize
+    requires few { number < 1000000000000000 }
+    requires room { at + 16 ≤ length bytes.old }
+    ensures written { take result bytes.new ≡ take at bytes.old ++ decimal number }
+    ensures end { result ≤ at + 16 }
+{
+    if number < 1 << 32 {
+        return write_number(bytes, at, number as u32);
+    }
+    let high = number / 1000;
+    let first = write_number(bytes, at, (high / 1000) as u32);
+    let middle = write_three(bytes, first, (high % 1000) as u32);
+    write_three(bytes, middle, (number % 1000) as u32)
+}
+
+/// Writes the digits of a number of 64 bits from a place on, and answers where they end. What stands before is as it was.
+pub(crate) fn write_long(bytes: &mut [u8], at: usize, number: u64) -> usize
+    requires room { at + 22 ≤ length bytes.old }
+    ensures written { take result bytes.new ≡ take at bytes.old ++ decimal number }
+    ensures end { result ≤ at + 22 }
+{
+    if number < 1_000_000_000_000_000 {
+        return write_middle(bytes, at, number);
+    }
+    let high = number / 1000;
+    let first = write_middle(bytes, at, high / 1000);
+    let middle = write_three(bytes, first, (high % 1000) as u32);
+    write_three(bytes, middle, (number % 1000) as u32)
+}

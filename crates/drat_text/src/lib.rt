@@ -1,4 +1,4 @@
-//! The bytes of a DRAT proof, as text or in binary: how its lines are spelled. `LineOut` is where the lines of a log go one
+//! The bytes of a proof, as DRAT in text or in binary, or as LRAT: how its lines are spelled. `LineOut` is where the lines of a log go one
 //! by one, and `SinkLines` writes them to a sink, `CountedLines` spells none. `put_binary` writes one line in binary, and
 //! `read_lines` reads a text. `Piece` is a small fixed buffer that another text is written over.
 #![tactic(auto)]
@@ -12,6 +12,7 @@ mod laws;
 mod line;
 mod line_out;
 mod literals;
+mod lrat;
 mod numbers;
 mod piece;
 mod read;

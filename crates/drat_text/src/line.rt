@@ -2,16 +2,18 @@
 ghost use Rattle.std.specs.Prelude.{◌≡◌, ◌<◌, ◌++◌, length, codes, MatchResult};
 ghost use Rattle.std.specs.Fmt.{signed_decimal};
 ghost use Rattle.sat_words.specs.Literal.{lit_text};
+ghost use Rattle.rup_model.specs.NumberedLines.{Added, Deleted};
 ghost use Rattle.drat_text.specs.Gathered.{Gathers, Breaks};
 ghost use Rattle.drat_text.specs.Spelling.{spelling};
-ghost use Rattle.drat_text.specs.Text.{lits_text, line_text};
+ghost use Rattle.drat_text.specs.Text.{lits_text};
 ghost use Rattle.drat_text.specs.declared.blocks.TheConstants.{BLOCK};
 
+use crate::binary::{ADDED, DELETED};
 use crate::blocks::Blocks;
 use crate::literals::LONGEST;
 use io_edge::{Failed, Sink};
 use itoa::Buffer;
-use sat_words::{Line, Lit, ProofFormat};
+use sat_words::{Lit, ProofFormat};
 
 /// The number that stands for the literal.
 pub(crate) fn number_of(lit: Lit) -> i32
@@ -22,32 +24,57 @@ pub(crate) fn number_of(lit: Lit) -> i32
 }
 
 impl<S: Sink> Blocks<S> {
-    /// Puts the line in this format, unless it would go nowhere.
-    pub(crate) fn spell(&mut self, format: ProofFormat, line: &Line) -> Result<(), Failed>
+    /// Puts the line that adds the clause in this format, unless it would go nowhere. As textual DRAT, which the proof checker
+    /// drat-trim reads, the clause 1 or not 2 is `1 -2 0`.
+    pub(crate) fn spell_addition(
+        &mut self,
+        format: ProofFormat,
+        number: u64,
+        lits: &[Lit],
+        hints: &[u64],
+    ) -> Result<(), Failed>
         requires room { length self.old.waiting < BLOCK }
-        ensures { MatchResult result (λ _. Gathers S.written S.flushed S.target S.faults self.old self.new (spelling format line.now)) (λ _. Breaks S.written S.flushed S.target S.faults self.old self.new (spelling format line.now)) }
+        ensures { MatchResult result (λ _. Gathers S.written S.flushed S.target S.faults self.old self.new (spelling format (Added number lits.now hints.now))) (λ _. Breaks S.written S.flushed S.target S.faults self.old self.new (spelling format (Added number lits.now hints.now))) }
     {
         if self.is_nowhere() {
             return Ok(());
         }
         match format {
-            ProofFormat::Text => self.put_line(line),
-            ProofFormat::Binary => self.put_binary_line(line),
+            ProofFormat::Text => self.put_lits(lits),
+            ProofFormat::Binary => self.put_marked(ADDED, lits),
+            ProofFormat::Lrat => self.put_lrat_addition(number, lits, hints),
         }
     }
 
-    /// Puts the line, as textual DRAT: the format that the proof checker drat-trim reads. For the clause 1 or not 2 it is
-    /// `1 -2 0` if it is added, and `d 1 -2 0` if it is deleted.
-    fn put_line(&mut self, line: &Line) -> Result<(), Failed>
+    /// Puts the line that deletes the clause with this number in this format, unless it would go nowhere. As textual DRAT that
+    /// of the clause 1 or not 2 is `d 1 -2 0`.
+    pub(crate) fn spell_deletion(
+        &mut self,
+        format: ProofFormat,
+        last: u64,
+        number: u64,
+        lits: &[Lit],
+    ) -> Result<(), Failed>
         requires room { length self.old.waiting < BLOCK }
-        ensures { MatchResult result (λ _. Gathers S.written S.flushed S.target S.faults self.old self.new (line_text line.now)) (λ _. Breaks S.written S.flushed S.target S.faults self.old self.new (line_text line.now)) }
+        ensures { MatchResult result (λ _. Gathers S.written S.flushed S.target S.faults self.old self.new (spelling format (Deleted last number lits.now))) (λ _. Breaks S.written S.flushed S.target S.faults self.old self.new (spelling format (Deleted last number lits.now))) }
     {
-        match line {
-            Line::Add(lits) => self.put_lits(lits.as_slice()),
-            Line::Del(lits) => match self.append(b"d ") {
-                Ok(()) => self.put_lits(lits.as_slice()),
-                Err(Failed) => Err(Failed),
-            },
+        if self.is_nowhere() {
+            return Ok(());
+        }
+        match format {
+            ProofFormat::Text => self.put_deletion(lits),
+            ProofFormat::Binary => self.put_marked(DELETED, lits),
+            ProofFormat::Lrat => self.put_lrat_deletion(last, number),
+        }
+    }
+
+    fn put_deletion(&mut self, lits: &[Lit]) -> Result<(), Failed>
+        requires room { length self.old.waiting < BLOCK }
+        ensures { MatchResult result (λ _. Gathers S.written S.flushed S.target S.faults self.old self.new (codes "d " ++ lits_text lits.now ++ codes "0\n")) (λ _. Breaks S.written S.flushed S.target S.faults self.old self.new (codes "d " ++ lits_text lits.now ++ codes "0\n")) }
+    {
+        match self.append(b"d ") {
+            Ok(()) => self.put_lits(lits),
+            Err(Failed) => Err(Failed),
         }
     }
 
@@ -67,7 +94,7 @@ impl<S: Sink> Blocks<S> {
     }
 
     /// Puts the literals' texts one by one, each with a space after it. One of them may fill a block.
-    fn append_lits(&mut self, lits: &[Lit]) -> Result<(), Failed>
+    pub(crate) fn append_lits(&mut self, lits: &[Lit]) -> Result<(), Failed>
         requires room { length self.old.waiting < BLOCK }
         ensures { MatchResult result (λ _. Gathers S.written S.flushed S.target S.faults self.old self.new (lits_text lits.now)) (λ _. Breaks S.written S.flushed S.target S.faults self.old self.new (lits_text lits.now)) }
     {

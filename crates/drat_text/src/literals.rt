@@ -37,7 +37,7 @@ fn write_lit(bytes: &mut [u8], at: usize, lit: Lit) -> usize
 /// Writes the literals' texts, each with a space after it. The place is a variable of the loop, so that no byte waits for a
 /// place that is read from memory.
 #[inline(always)]
-fn write_lits(bytes: &mut [u8], start: usize, lits: &[Lit]) -> usize
+pub(crate) fn write_lits(bytes: &mut [u8], start: usize, lits: &[Lit]) -> usize
     requires room { start + LONGEST * length lits.now ≤ length bytes.old }
     ensures written { take result bytes.new ≡ take start bytes.old ++ lits_text lits.now }
     ensures end { result ≤ start + LONGEST * length lits.now }

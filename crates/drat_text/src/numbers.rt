@@ -1,9 +1,8 @@
 // The numbers that the lines of a log are given.
 ghost use Rattle.std.specs.Prelude.{◌≡◌, ◌<◌, ◌≤◌, ◌+◌, ◌^◌, IsTrue, ◌↔◌};
 ghost use Rattle.sat_words.specs.declared.shared.TheConstants.{MAX_ENTRIES};
-ghost use Rattle.drat_text.specs.LineState.{last_after, number_given};
 
-use sat_words::{Line, MAX_ENTRIES};
+use sat_words::MAX_ENTRIES;
 use std::marker::Model;
 
 /// How many lines stand, and the last number given.
@@ -52,19 +51,34 @@ impl Numbers {
         self.entries
     }
 
-    /// One line more. Answers the number of an addition, and 0 for a deletion.
-    pub(crate) fn count(&mut self, line: &Line) -> u64
+    /// The last number given.
+    pub(crate) fn last(&self) -> u64
+        ensures { result ≡ self.now.last }
+    {
+        self.last
+    }
+
+    /// The number of the next addition.
+    pub(crate) fn next(&self) -> u64
+        ensures { result ≡ self.now.last + 1 }
+    {
+        self.last + 1
+    }
+
+    /// One addition more, which takes the next number.
+    pub(crate) fn count_addition(&mut self)
         requires room { self.old.entries < MAX_ENTRIES }
-        ensures given { result ≡ number_given self.old.last line.now }
-        ensures counted { self.new ≡ record { entries = self.old.entries + 1; last = last_after self.old.last line.now } }
+        ensures { self.new ≡ record { entries = self.old.entries + 1; last = self.old.last + 1 } }
     {
         self.entries += 1;
-        match line {
-            Line::Add(_) => {
-                self.last += 1;
-                self.last
-            }
-            Line::Del(_) => 0,
-        }
+        self.last += 1;
+    }
+
+    /// One deletion more.
+    pub(crate) fn count_deletion(&mut self)
+        requires room { self.old.entries < MAX_ENTRIES }
+        ensures { self.new ≡ record { entries = self.old.entries + 1; last = self.old.last } }
+    {
+        self.entries += 1;
     }
 }

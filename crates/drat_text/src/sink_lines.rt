@@ -1,10 +1,11 @@
-// The lines of a log as a DRAT proof.
+// The lines of a log as a proof.
 ghost use Rattle.std.specs.Prelude.{◌≡◌, ◌≢◌, Err, ◌≤◌, ◌<◌, ◌+◌, ◌^◌, [], true, false, length, is_err, IfOk, IfErr, OnOk, OnErr};
 ghost use Rattle.std.specs.Io.KnownBytes.{append_known};
 ghost use Rattle.io_edge.specs.Bytes.{IsFront};
 ghost use Rattle.io_edge.specs.Causes.{HasCause};
 ghost use Rattle.io_edge.specs.Paths.{IsEmptyWhereTold};
 ghost use Rattle.sat_words.specs.declared.line.ProofFormat.TheVariants.{Text};
+ghost use Rattle.rup_model.specs.NumberedLines.{Added, Deleted};
 ghost use Rattle.drat_text.specs.SinkData.{SinkData, told_by, begun_lines};
 ghost use Rattle.drat_text.specs.LineOut.{WasPut};
 ghost use Rattle.drat_text.specs.declared.stop.LineStop.TheVariants.{Memory};
@@ -16,7 +17,7 @@ use crate::line_out::LineOut;
 use crate::numbers::Numbers;
 use crate::stop::LineStop;
 use io_edge::{Failed, Sink};
-use sat_words::{Line, ProofFormat};
+use sat_words::{Lit, ProofFormat};
 use std::alloc::{AllocFailed, Global};
 use std::marker::Model;
 
@@ -115,19 +116,52 @@ impl<S: Sink> SinkLines<S> {
 impl<S: Sink> LineOut for SinkLines<S> {
     ghost told = { told_by S.written S.flushed S.target S.faults };
 
-    fn put(&mut self, line: &Line) -> Result<u64, LineStop>
+    fn format(&self) -> ProofFormat {
+        self.format
+    }
+
+    fn add(&mut self, lits: &[Lit], hints: &[u64]) -> Result<u64, LineStop>
         requires unspent { self.old.spent ≡ false }
-        ensures put { WasPut (told_by S.written S.flushed S.target S.faults self.old) (told_by S.written S.flushed S.target S.faults self.new) line.now result }
+        ensures put { WasPut (told_by S.written S.flushed S.target S.faults self.old) (told_by S.written S.flushed S.target S.faults self.new) (Added (self.old.last + 1) lits.now hints.now) result }
+        ensures number { IfOk result (λ n. n ≡ self.old.last + 1) }
         ensures memory { result ≢ Err Memory }
-        ensures gathers { length self.old.waiting + length (spelling self.old.format line.now) < BLOCK → self.new.sink ≡ self.old.sink }
+        ensures gathers { length self.old.waiting + length (spelling self.old.format (Added (self.old.last + 1) lits.now hints.now)) < BLOCK → self.new.sink ≡ self.old.sink }
     {
         if self.numbers.is_full() {
             return Err(LineStop::Full);
         }
-        if self.blocks.spell(self.format, line).is_err() {
+        let number = self.numbers.next();
+        if self
+            .blocks
+            .spell_addition(self.format, number, lits, hints)
+            .is_err()
+        {
             self.spent = true;
             return Err(LineStop::ProofFault);
         }
-        Ok(self.numbers.count(line))
+        self.numbers.count_addition();
+        Ok(number)
+    }
+
+    fn del(&mut self, number: u64, lits: &[Lit]) -> Result<(), LineStop>
+        requires unspent { self.old.spent ≡ false }
+        ensures put { WasPut (told_by S.written S.flushed S.target S.faults self.old) (told_by S.written S.flushed S.target S.faults self.new) (Deleted self.old.last number lits.now) result }
+        ensures memory { result ≢ Err Memory }
+        ensures gathers { length self.old.waiting + length (spelling self.old.format (Deleted self.old.last number lits.now)) < BLOCK → self.new.sink ≡ self.old.sink }
+    {
+        if self.numbers.is_full() {
+            return Err(LineStop::Full);
+        }
+        let last = self.numbers.last();
+        if self
+            .blocks
+            .spell_deletion(self.format, last, number, lits)
+            .is_err()
+        {
+            self.spent = true;
+            return Err(LineStop::ProofFault);
+        }
+        self.numbers.count_deletion();
+        Ok(())
     }
 }

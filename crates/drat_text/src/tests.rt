@@ -1,3 +1,5 @@
+ghost use Rattle.std.specs.Prelude.{◌≡◌, false};
+
 use crate::{
     LineOut, ReadLinesStop, SinkLines, a_front_ends_in_a_line, bytes_determine_lines,
     no_spelling_begins_another, one_line_is_the_first_bad, put_binary, read_lines,
@@ -7,6 +9,16 @@ use sat_words::{Line, Lit, Lits, ProofFormat};
 use std::alloc::AllocGlobal;
 use std::process::Abort;
 use std::test::Fail;
+
+/// Puts the line: an addition without hints, or the deletion of the first clause. Answers whether it stands.
+fn put<S: Sink>(lines: &mut SinkLines<S>, line: &Line) -> bool
+    requires { lines.old.spent ≡ false }
+{
+    match line {
+        Line::Add(lits) => lines.add(lits.as_slice(), &[]).is_ok(),
+        Line::Del(lits) => lines.del(1, lits.as_slice()).is_ok(),
+    }
+}
 
 #[test]
 fn lines_and_their_texts(rt: HostRuntime) -> Result<(), Fail> {
@@ -34,7 +46,7 @@ fn lines_and_their_texts(rt: HostRuntime) -> Result<(), Fail> {
         let Ok(mut lines) = SinkLines::new(alloc, 0, MemSink::new(alloc, 64, &[2])?) else {
             return Err("no memory".into());
         };
-        assert!(rt; lines.put(line).is_ok(), "{text}");
+        assert!(rt; put(&mut lines, line), "{text}");
         let (end, sink) = lines.finish();
         assert_eq!(rt; end, Ok(()), "{text}");
         assert!(rt; sink.bytes() == text.as_bytes(), "{text}");
@@ -73,7 +85,7 @@ fn lines_in_binary(rt: HostRuntime) -> Result<(), Fail> {
         let Ok(mut lines) = SinkLines::with_format(alloc, ProofFormat::Binary, 0, sink) else {
             return Err("no memory".into());
         };
-        assert!(rt; lines.put(line).is_ok());
+        assert!(rt; put(&mut lines, line));
         let (end, sink) = lines.finish();
         assert_eq!(rt; end, Ok(()));
         assert!(rt; sink.bytes() == *wanted);
@@ -103,7 +115,7 @@ fn a_line_in_binary_is_cut(rt: HostRuntime) -> Result<(), Fail> {
 /// Puts the line this many times, unless the sink fails before. Answers how often it was put.
 fn put_often<S: Sink>(lines: &mut SinkLines<S>, line: &Line, times: u32) -> u32 {
     for done in 0..times {
-        if lines.is_spent() || lines.put(line).is_err() {
+        if lines.is_spent() || !put(lines, line) {
             return done;
         }
     }
@@ -149,14 +161,13 @@ fn a_write_has_a_whole_block(rt: HostRuntime) -> Result<(), Fail> {
 #[test]
 fn lines_put_one_by_one(rt: HostRuntime) -> Result<(), Fail> {
     let alloc = rt.alloc();
-    let three = Line::Add(Lits::from_slice(alloc, &[Lit::new(3, false)])?);
-    let gone = Line::Del(Lits::from_slice(alloc, &[Lit::new(3, false)])?);
+    let three = [Lit::new(3, false)];
     let Ok(mut lines) = SinkLines::new(alloc, 7, MemSink::new(alloc, 64, &[])?) else {
         return Err("no memory".into());
     };
-    assert!(rt; lines.put(&three) == Ok(8));
-    assert!(rt; lines.put(&gone) == Ok(0));
-    assert!(rt; lines.put(&three) == Ok(9));
+    assert!(rt; lines.add(&three, &[]) == Ok(8));
+    assert!(rt; lines.del(8, &three) == Ok(()));
+    assert!(rt; lines.add(&three, &[]) == Ok(9));
     let (end, sink) = lines.finish();
     assert_eq!(rt; end, Ok(()));
     assert!(rt; sink.bytes() == b"3 0\nd 3 0\n3 0\n".as_slice());
@@ -164,14 +175,98 @@ fn lines_put_one_by_one(rt: HostRuntime) -> Result<(), Fail> {
 }
 
 #[test]
+fn lines_in_lrat(rt: HostRuntime) -> Result<(), Fail> {
+    let alloc = rt.alloc();
+    let two = Lit::new(2, false);
+    let three = Lit::new(3, false);
+    let sink = MemSink::new(alloc, 64, &[2])?;
+    let Ok(mut lines) = SinkLines::with_format(alloc, ProofFormat::Lrat, 2, sink) else {
+        return Err("no memory".into());
+    };
+    assert!(rt; lines.add(&[two, three], &[1, 2]) == Ok(3));
+    assert!(rt; lines.del(2, &[two, three]) == Ok(()));
+    assert!(rt; lines.add(&[two.not()], &[]) == Ok(4));
+    assert!(rt; lines.add(&[], &[1, 4]) == Ok(5));
+    let (end, sink) = lines.finish();
+    assert_eq!(rt; end, Ok(()));
+    assert!(rt; sink.bytes() == b"3 2 3 0 1 2 0\n3 d 2 0\n4 -2 0 0\n5 0 1 4 0\n".as_slice());
+    Ok(())
+}
+
+#[test]
+fn numbers_of_all_sizes(rt: HostRuntime) -> Result<(), Fail> {
+    let alloc = rt.alloc();
+    let sink = MemSink::new(alloc, 256, &[])?;
+    let Ok(mut lines) = SinkLines::with_format(alloc, ProofFormat::Lrat, 1 << 63, sink) else {
+        return Err("no memory".into());
+    };
+    let hints = [
+        9,
+        10,
+        1000,
+        999_999,
+        1_000_000,
+        4_294_967_295,
+        4_294_967_296,
+        999_999_999_999_999,
+        1_000_000_000_000_000,
+        1_000_000_000_000_000_000,
+    ];
+    assert!(rt; lines.add(&[], &hints).is_ok());
+    assert!(rt; lines.del(9_000_000_000_000_000_001, &[]).is_ok());
+    let (end, sink) = lines.finish();
+    assert_eq!(rt; end, Ok(()));
+    assert!(rt;
+        sink.bytes()
+            == b"9223372036854775809 0 9 10 1000 999999 1000000 4294967295 4294967296 999999999999999 1000000000000000 1000000000000000000 0\n9223372036854775809 d 9000000000000000001 0\n".as_slice()
+    );
+    Ok(())
+}
+
+/// Adds the bytes this many times.
+fn repeat(to: &mut Vec<u8>, bytes: &[u8], times: u32) -> Result<(), Fail> {
+    for _ in 0..times {
+        to.extend_from_slice(bytes)?;
+    }
+    Ok(())
+}
+
+/// A line of 186,006 bytes, and 9,000 lines of nine bytes after it.
+#[test]
+fn blocks_in_lrat(rt: HostRuntime) -> Result<(), Fail> {
+    let alloc = rt.alloc();
+    let sink = MemSink::new(alloc, 1 << 19, &[])?;
+    let Ok(mut lines) = SinkLines::with_format(alloc, ProofFormat::Lrat, 2, sink) else {
+        return Err("no memory".into());
+    };
+    let lits = vec![in alloc; Lit::new(12, true); 15_000]?;
+    let hints = vec![in alloc; 123_456; 18_000]?;
+    assert!(rt; lines.add(&lits, &hints) == Ok(3));
+    for _ in 0..9000 {
+        assert!(rt; !lines.is_spent() && lines.del(12, &lits).is_ok());
+    }
+    let (end, sink) = lines.finish();
+    assert_eq!(rt; end, Ok(()));
+    let mut wanted = Vec::new(alloc);
+    repeat(&mut wanted, b"3 ", 1)?;
+    repeat(&mut wanted, b"-12 ", 15_000)?;
+    repeat(&mut wanted, b"0 ", 1)?;
+    repeat(&mut wanted, b"123456 ", 18_000)?;
+    repeat(&mut wanted, b"0\n", 1)?;
+    repeat(&mut wanted, b"3 d 12 0\n", 9000)?;
+    assert!(rt; sink.bytes() == wanted.as_slice());
+    Ok(())
+}
+
+#[test]
 fn lines_that_go_nowhere(rt: HostRuntime) -> Result<(), Fail> {
     let alloc = rt.alloc();
-    let three = Line::Add(Lits::from_slice(alloc, &[Lit::new(3, false)])?);
+    let three = [Lit::new(3, false)];
     let Ok(mut lines) = SinkLines::new(alloc, 7, NullSink) else {
         return Err("no memory".into());
     };
-    assert!(rt; lines.put(&three) == Ok(8));
-    assert!(rt; lines.put(&three) == Ok(9));
+    assert!(rt; lines.add(&three, &[]) == Ok(8));
+    assert!(rt; lines.add(&three, &[]) == Ok(9));
     let (end, _) = lines.finish();
     assert_eq!(rt; end, Ok(()));
     Ok(())

@@ -1,6 +1,6 @@
 -- A book that is filled through the bound of a line output.
 use Rattle.io_edge.specs.declared.edge.Sink.{Ghosts}
-use Rattle.std.proofs.Common.{◌≡◌, ◌∙◌, ℕ, ◌+◌, ◌<◌, Bool, true, false, List, [], ◌∷◌, ◌++◌, ◌≤◌, length, length-append, Some, None, refl, sym, ap, subst, append-nil, arith, true≢false}
+use Rattle.std.proofs.Common.{◌≡◌, ◌∙◌, ℕ, ◌+◌, ◌<◌, Bool, true, false, List, [], ◌∷◌, ◌++◌, length, length-append, Some, None, refl, sym, ap, subst, append-nil, arith, true≢false}
 use Rattle.std.specs.Prelude.{is_some}
 use Rattle.std.specs.declared.option.Option.{Option}
 use Rattle.std.specs.Io.KnownBytes.{append_known}
@@ -14,13 +14,13 @@ use Rattle.rup_model.specs.declared.journal.Round.{Round as RoundStart}
 use Rattle.rup_model.specs.declared.journal.Entry.{Entry}
 use Rattle.rup_model.specs.declared.journal.Entry.TheVariants.{Round}
 use Rattle.rup_model.specs.Journal.{Book as Numbers, lines}
+use Rattle.rup_model.specs.NumberedLines.{NumberedLine, numbered_lines}
 use Rattle.rup_model.proofs.Numbers.{book_last, lines_last}
 use Rattle.drat_text.specs.Text.{CanBeSpelled}
 use Rattle.drat_text.specs.JournalText.{Origin}
 use Rattle.drat_text.proofs.JournalLines.{has_text_still}
 use Rattle.drat_text.specs.Spelling.{spelling, proof_bytes}
-use Rattle.drat_text.specs.LineState.{LineState, with_lines}
-use Rattle.sat_words.specs.declared.line.Line.TheVariants.{Add, Del}
+use Rattle.drat_text.specs.LineState.{with_lines}
 use Rattle.drat_text.specs.LineOut.{PutLine, FailedLine}
 use Rattle.drat_text.specs.SinkData.{told_by}
 use Rattle.share_core.proofs.Counting.{some_same, none_some}
@@ -59,22 +59,17 @@ kept_asked : (asked : Bool) (kept : Option (List Line)) (L : List Line) → kept
 kept_asked true kept L e = (ap is_some e, λ ls q. some_same ls L (sym q ∙ e))
 kept_asked false kept L e = (ap is_some e, λ ls q. absurd (none_some ls (sym e ∙ q)))
 
--- the number of an addition is the last, and a deletion has none
-pub last_put : (old new : LineState) (x : Line) (number : ℕ) → PutLine old new x number → (0 < number → number ≡ new.last) × (number ≤ 0 → old.last ≡ new.last)
-last_put old new (Add lits) number put = let n = put.given in let e = ap (λ (s : LineState). s.last) put.state in (λ _. omega arith, λ z. omega arith)
-last_put old new (Del lits) number put = let n = put.given in let e = ap (λ (s : LineState). s.last) put.state in (λ z. omega arith, λ _. omega arith)
-
 module _ {S : Type 0} {d : Ghosts S} (written flushed target : S → Option (List ℕ)) (faults : S → ℕ) where
   -- room changes nothing of what is known
   pub told_alike : (old new : Book S d) → AreAlike old new → told_of written flushed target faults new ≡ told_of written flushed target faults old
   told_alike old new a = λ i. record (told_by written flushed target faults (a.lines i)) { entries = a.entries i; kept = a.kept i }
 
   -- the line stands in what is known
-  pub told_put : (old new : Book S d) (x : Line) (number : ℕ) → old.entries < MAX_ENTRIES → HasPut written flushed target faults old new x number → PutLine (told_of written flushed target faults old) (told_of written flushed target faults new) x number
-  told_put old new x number room p = record { room = room; given = p.put.given; state = λ i. record (p.put.state i) { entries = p.entries i; kept = p.kept i } }
+  pub told_put : (old new : Book S d) (x : NumberedLine) → old.entries < MAX_ENTRIES → HasPut written flushed target faults old new x → PutLine (told_of written flushed target faults old) (told_of written flushed target faults new) x
+  told_put old new x room p = record { room = room; state = λ i. record (p.put.state i) { entries = p.entries i; kept = p.kept i } }
 
   -- and so does its failure
-  pub told_failed : (old new : Book S d) (x : Line) → old.entries < MAX_ENTRIES → HasFailed written flushed target faults old new x → FailedLine (told_of written flushed target faults old) (told_of written flushed target faults new) x
+  pub told_failed : (old new : Book S d) (x : NumberedLine) → old.entries < MAX_ENTRIES → HasFailed written flushed target faults old new x → FailedLine (told_of written flushed target faults old) (told_of written flushed target faults new) x
   told_failed old new x room p = record {
     room = room;
     rose = p.failed.rose;
@@ -88,7 +83,7 @@ module _ {S : Type 0} {d : Ghosts S} (written flushed target : S → Option (Lis
       → IsFilled (begun F (told_new written flushed target faults f (length F) sink asked)) J (told_of written flushed target faults b)
       → HasLog account_of (IsLogOf written flushed target faults) b (origin_of written flushed target faults b) l F J × IsFrom target faults f sink asked (origin_of written flushed target faults b)
   filled b f sink asked F J l none h =
-      let text : List ℕ = proof_bytes f (lines F J) in
+      let text : List ℕ = proof_bytes f (numbered_lines F J) in
       let bytes = holds_grown (append_known (written b.log.lines.sink) b.log.lines.waiting) (append_known (written sink) []) text (still_empty (written sink) none) h.text.bytes in
       let since = since_none (written b.log.lines.sink) b.log.lines.waiting text bytes in
       let kept = kept_asked asked b.log.kept.lines (lines F J) h.text.kept in (
@@ -98,7 +93,7 @@ module _ {S : Type 0} {d : Ghosts S} (written flushed target : S → Option (Lis
           keeps = refl;
           kept = λ _ ls q. kept.1 ls q;
           sink = record {
-            whole = λ _. record { quiet = refl; format = refl; bytes = since ∙ ap (λ (g : ProofFormat). append_known (no_byte (is_some (written b.log.lines.sink))) (proof_bytes g (lines F J))) (sym h.text.format); kept = refl };
+            whole = λ _. record { quiet = refl; format = refl; bytes = since ∙ ap (λ (g : ProofFormat). append_known (no_byte (is_some (written b.log.lines.sink))) (proof_bytes g (numbered_lines F J))) (sym h.text.format); kept = refl };
             cut = λ q. absurd (true≢false (sym q ∙ h.unspent));
             target_is = refl;
             flushed_is = refl;
@@ -122,7 +117,7 @@ module _ {S : Type 0} {d : Ghosts S} (written flushed target : S → Option (Lis
         accepted = h.text.accepted;
         on = h.text.on;
         rose = h.text.rose;
-        front = cut_since (written b.log.lines.sink) (append_known (written sink) []) b.log.lines.waiting (proof_bytes f (lines F J) ++ spelling f h.text.line) (still_empty (written sink) none) h.text.front;
+        front = cut_since (written b.log.lines.sink) (append_known (written sink) []) b.log.lines.waiting (proof_bytes f (numbered_lines F J) ++ spelling f h.text.line) (still_empty (written sink) none) h.text.front;
       };
       target_is = refl;
       flushed_is = refl;

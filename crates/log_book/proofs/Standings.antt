@@ -1,6 +1,6 @@
 -- What a book stands for once more is written.
 use Rattle.io_edge.specs.declared.edge.Sink.{Ghosts}
-use Rattle.std.proofs.Common.{◌≡◌, ◌⊎◌, inl, inr, ℕ, suc, ◌+◌, ◌<◌, ◌≤◌, ◌||◌, Bool, true, false, List, [], ◌∷◌, ◌++◌, All, length, refl, sym, ap, ◌∙◌, subst, arith, length-append, append_assoc, true≢false, Some, None}
+use Rattle.std.proofs.Common.{◌≡◌, ◌⊎◌, inl, inr, ℕ, suc, ◌+◌, ◌-◌, ◌<◌, ◌≤◌, ◌||◌, Bool, true, false, List, [], ◌∷◌, ◌++◌, All, length, refl, sym, ap, ◌∙◌, subst, arith, length-append, append_assoc, true≢false, Some, None}
 use Rattle.std.specs.List.{list_any}
 use Rattle.std.specs.Prelude.{IfSome, is_some}
 use Rattle.std.specs.declared.option.Option.{Option as Maybe}
@@ -15,7 +15,9 @@ use Rattle.rup_model.specs.declared.journal.Kind.{Kind}
 use Rattle.rup_model.specs.declared.journal.Entry.{Entry}
 use Rattle.rup_model.specs.Log.{Accepted, lits_of}
 use Rattle.rup_model.specs.Journal.{Book as Numbers, book, book_after, lines, lines_after, added, ended}
+use Rattle.rup_model.specs.NumberedLines.{NumberedLine, line_of, numbered_after}
 use Rattle.rup_model.proofs.Additions.{added-append}
+use Rattle.rup_model.proofs.Lines.{one_line}
 use Rattle.rup_model.proofs.Numbers.{book_last, lines_last}
 use Rattle.drat_text.specs.LineState.{LineState, last_after, with_lines}
 use Rattle.drat_text.specs.SinkData.{told_by}
@@ -74,6 +76,13 @@ module _ {S : Type 0} {d : Ghosts S} (written flushed target : S → Maybe (List
 
     pub is_ended : t.book.ended ≡ ended v.opening.formula J
     is_ended = h.stands.ended
+
+    -- the number that a book gives next, and the last one
+    pub next_given : (b : Book S d) → b.log.lines ≡ t.book.log.lines → (book v.opening.formula J).next ≡ b.log.lines.last + 1
+    next_given b same = let last = h.stands.log.last in let e = ap (λ l. l.last) same in omega arith
+
+    pub last_given : (b : Book S d) → b.log.lines ≡ t.book.log.lines → (book v.opening.formula J).next - 1 ≡ b.log.lines.last
+    last_given b same = let last = h.stands.log.last in let e = ap (λ l. l.last) same in omega arith
 
     -- if the book began
     abbrev O : Origin
@@ -149,22 +158,23 @@ module _ {S : Type 0} {d : Ghosts S} (written flushed target : S → Maybe (List
           next_refused (Some z) q = refused_next v.layout v.opening J e t.book.log.lines.spent z q
 
       -- the line stands
-      pub line_turn : (t' : Turn S d) (x : Line) (number : ℕ) → lines_after (book v.opening.formula J) e ≡ x ∷ [] → t'.noted.items ≡ t.noted.items ++ n ∷ [] → t'.refused ≡ t.refused
-          → (b : Book S d) → b.log.lines ≡ t.book.log.lines → b.entries ≡ t.book.entries → b.ended ≡ t.book.ended → b.log.kept.lines ≡ t.book.log.kept.lines → (c : Book S d) → HasPut written flushed target faults b c x number
+      pub line_turn : (t' : Turn S d) (x : NumberedLine) → numbered_after (book v.opening.formula J) e ≡ x ∷ [] → t'.noted.items ≡ t.noted.items ++ n ∷ [] → t'.refused ≡ t.refused
+          → (b : Book S d) → b.log.lines ≡ t.book.log.lines → b.entries ≡ t.book.entries → b.ended ≡ t.book.ended → b.log.kept.lines ≡ t.book.log.kept.lines → (c : Book S d) → HasPut written flushed target faults b c x
           → t'.book.log ≡ c.log → t'.book.entries ≡ c.entries → t'.book.ended ≡ c.ended → t'.book.holes ≡ (room_after (room v.layout v.opening J) e).holes
-          → suc (last_after t.book.log.lines.last x) ≡ (book_after (book v.opening.formula J) e).next → ends x ≡ list_any is_empty (added (e ∷ [])) → IsTurn written flushed target faults v t' × (t'.book.log.lines.spent ≡ false)
-      line_turn t' x number line noted_is refused_is b b_lines b_entries b_ended b_kept c put log_are entries_are ended_are holes_are last end =
+          → suc (last_after t.book.log.lines.last (line_of x)) ≡ (book_after (book v.opening.formula J) e).next → ends (line_of x) ≡ list_any is_empty (added (e ∷ [])) → IsTurn written flushed target faults v t' × (t'.book.log.lines.spent ≡ false)
+      line_turn t' x one noted_is refused_is b b_lines b_entries b_ended b_kept c put log_are entries_are ended_are holes_are last end =
           let state = put.put.state in
+          let line : lines_after (book v.opening.formula J) e ≡ line_of x ∷ [] = one_line (book v.opening.formula J) e x one in
           let lines_are : t'.book.log.lines ≡ c.log.lines = ap (λ k. k.lines) log_are in
-          let kept_are : t'.book.log.kept.lines ≡ with_lines t.book.log.kept.lines (x ∷ []) = ap (λ k. k.kept.lines) log_are ∙ put.kept ∙ ap (λ k. with_lines k (x ∷ [])) b_kept in
+          let kept_are : t'.book.log.kept.lines ≡ with_lines t.book.log.kept.lines (line_of x ∷ []) = ap (λ k. k.kept.lines) log_are ∙ put.kept ∙ ap (λ k. with_lines k (line_of x ∷ [])) b_kept in
           let whole : t'.book.log.lines.spent ≡ false = ap (λ l. l.spent) lines_are ∙ ap (λ (l : LineState). l.spent) state ∙ ap (λ l. l.spent) b_lines ∙ could.1 in
           let was : HasText O J (told_by written flushed target faults b.log.lines) = subst (λ l. HasText O J (told_by written flushed target faults l)) (sym b_lines) (h.stands.log.sink.whole could.1) in
-          let bytes = has_text_next O J (told_by written flushed target faults b.log.lines) (told_by written flushed target faults c.log.lines) x was e line number put.put in (
+          let bytes = has_text_next O J (told_by written flushed target faults b.log.lines) (told_by written flushed target faults c.log.lines) x was e one put.put in (
             note_turn t' noted_is refused_is whole holes_are (entries_are ∙ put.entries ∙ ap (λ (k : ℕ). k + 1) b_entries)
-                (ap (λ l. suc l.last) lines_are ∙ ap (λ (l : LineState). suc l.last) state ∙ ap (λ l. suc (last_after l.last x)) b_lines ∙ last)
+                (ap (λ l. suc l.last) lines_are ∙ ap (λ (l : LineState). suc l.last) state ∙ ap (λ l. suc (last_after l.last (line_of x))) b_lines ∙ last)
                 (ended_are ∙ put.ended ∙ (λ i. b_ended i || end i))
-                (ap is_some kept_are ∙ some_with t.book.log.kept.lines x)
-                (λ ls q. kept_grown t.book.log.kept.lines t'.book.log.kept.lines (lines v.opening.formula J) x kept_are (h.stands.log.kept could.1) ls q ∙ ap (λ (xs : List Line). lines v.opening.formula J ++ xs) (sym line))
+                (ap is_some kept_are ∙ some_with t.book.log.kept.lines (line_of x))
+                (λ ls q. kept_grown t.book.log.kept.lines t'.book.log.kept.lines (lines v.opening.formula J) (line_of x) kept_are (h.stands.log.kept could.1) ls q ∙ ap (λ (xs : List Line). lines v.opening.formula J ++ xs) (sym line))
                 (subst (λ l. HasText O (J ++ e ∷ []) (told_by written flushed target faults l)) (sym lines_are) bytes)
                 (ap (λ l. target l.sink) lines_are ∙ ap (λ (l : LineState). l.target) state ∙ ap (λ l. target l.sink) b_lines)
                 (ap (λ l. flushed l.sink) lines_are ∙ ap (λ (l : LineState). l.flushed) state ∙ ap (λ l. flushed l.sink) b_lines),
@@ -176,18 +186,19 @@ module _ {S : Type 0} {d : Ghosts S} (written flushed target : S → Maybe (List
       more_refused (Some z) now more q = refused_more v.layout v.opening J t.book.log.lines.spent now more z q
 
       -- the sink failed at the line
-      pub failed_turn : (t' : Turn S d) (x : Line) → lines_after (book v.opening.formula J) e ≡ x ∷ [] → All (IsOn v.layout.vars) (lits_of x) → t'.noted.items ≡ t.noted.items → t'.refused ≡ t.refused
+      pub failed_turn : (t' : Turn S d) (x : NumberedLine) → numbered_after (book v.opening.formula J) e ≡ x ∷ [] → All (IsOn v.layout.vars) (lits_of (line_of x)) → t'.noted.items ≡ t.noted.items → t'.refused ≡ t.refused
           → (b : Book S d) → b.log.lines ≡ t.book.log.lines → b.entries ≡ t.book.entries → b.ended ≡ t.book.ended → b.log.kept.lines ≡ t.book.log.kept.lines → (c : Book S d) → HasFailed written flushed target faults b c x
           → t'.book.log ≡ c.log → t'.book.entries ≡ c.entries → t'.book.ended ≡ c.ended → IsTurn written flushed target faults v t' × (t'.book.log.lines.spent ≡ true)
-      failed_turn t' x line on noted_is refused_is b b_lines b_entries b_ended b_kept c failed log_are entries_are ended_are =
+      failed_turn t' x one on noted_is refused_is b b_lines b_entries b_ended b_kept c failed log_are entries_are ended_are =
           let o : CoreOpening = v.opening in
           let state = failed.failed.state in
+          let line : lines_after (book v.opening.formula J) e ≡ line_of x ∷ [] = one_line (book v.opening.formula J) e x one in
           let J' : (sheet v t').journal ≡ J = ap (λ (ns : List Note). (written_of v ns).journal) noted_is in
           let lines_are : t'.book.log.lines ≡ c.log.lines = ap (λ k. k.lines) log_are in
           let kept_are : t'.book.log.kept.lines ≡ t.book.log.kept.lines = ap (λ k. k.kept.lines) log_are ∙ failed.kept ∙ b_kept in
           let spent : t'.book.log.lines.spent ≡ true = ap (λ l. l.spent) lines_are ∙ ap (λ (l : LineState). l.spent) state in
           let was : HasText O J (told_by written flushed target faults b.log.lines) = subst (λ l. HasText O J (told_by written flushed target faults l)) (sym b_lines) (h.stands.log.sink.whole could.1) in
-          let cut = has_text_cut O J (told_by written flushed target faults b.log.lines) (told_by written flushed target faults c.log.lines) x was (next_accepted x line) v.layout.vars on failed.failed in (
+          let cut = has_text_cut O J (told_by written flushed target faults b.log.lines) (told_by written flushed target faults c.log.lines) x was (next_accepted (line_of x) line) v.layout.vars on failed.failed in (
             record {
               writing = h.writing;
               may = subst (λ (ns : List Note). MayWrite v ns) (sym noted_is) h.may;

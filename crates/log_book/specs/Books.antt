@@ -10,6 +10,7 @@ use Rattle.sat_words.specs.declared.line.ProofFormat.{ProofFormat}
 use Rattle.sat_words.specs.declared.shared.TheConstants.{MAX_ENTRIES}
 use Rattle.rup_model.specs.declared.journal.Entry.{Entry}
 use Rattle.rup_model.specs.Journal.{book, lines}
+use Rattle.rup_model.specs.NumberedLines.{NumberedLine, line_of}
 use Rattle.drat_text.specs.declared.stop.LineStop.{LineStop}
 use Rattle.drat_text.specs.declared.stop.LineStop.TheVariants.{Full}
 use Rattle.drat_text.specs.Text.{CanBeSpelled}
@@ -116,17 +117,17 @@ module _ {S : Type 0} {d : Ghosts S} (written flushed target : S → Option (Lis
   abbrev pub origin_of : Book S d → BookOrigin
   origin_of b = record { format = b.log.lines.format; tells = is_some (written b.log.lines.sink); target = target b.log.lines.sink; flushed = flushed b.log.lines.sink; faults = faults b.log.lines.sink; keeps = is_some b.log.kept.lines }
 
-  -- the line stands, under this number
-  pub record HasPut (old new : Book S d) (line : Line) (number : ℕ) : Type 0 where
-    pub put : PutLine (told_by written flushed target faults old.log.lines) (told_by written flushed target faults new.log.lines) line number
-    pub kept : new.log.kept.lines ≡ with_lines old.log.kept.lines (line ∷ [])
+  -- the line stands
+  pub record HasPut (old new : Book S d) (x : NumberedLine) : Type 0 where
+    pub put : PutLine (told_by written flushed target faults old.log.lines) (told_by written flushed target faults new.log.lines) x
+    pub kept : new.log.kept.lines ≡ with_lines old.log.kept.lines (line_of x ∷ [])
     pub entries : new.entries ≡ old.entries + 1
-    pub ended : new.ended ≡ (old.ended || ends line)
+    pub ended : new.ended ≡ (old.ended || ends (line_of x))
     pub holes : new.holes ≡ old.holes
 
   -- the sink failed at it; it is not kept
-  pub record HasFailed (old new : Book S d) (line : Line) : Type 0 where
-    pub failed : FailedLine (told_by written flushed target faults old.log.lines) (told_by written flushed target faults new.log.lines) line
+  pub record HasFailed (old new : Book S d) (x : NumberedLine) : Type 0 where
+    pub failed : FailedLine (told_by written flushed target faults old.log.lines) (told_by written flushed target faults new.log.lines) x
     pub kept : new.log.kept.lines ≡ old.log.kept.lines
     pub entries : new.entries ≡ old.entries
     pub ended : new.ended ≡ old.ended

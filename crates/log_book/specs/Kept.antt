@@ -14,8 +14,8 @@ pub record KeptLines : Type 0 where
   pub next : Option Line
 
 -- once the line was put: it is kept if it stands
-abbrev pub kept_after : Result ℕ LineStop → Option (List Line) → Line → Option (List Line)
-kept_after (Ok number) kept line = with_lines kept (line ∷ [])
+abbrev pub kept_after : {T : Type 0} → Result T LineStop → Option (List Line) → Line → Option (List Line)
+kept_after (Ok done) kept line = with_lines kept (line ∷ [])
 kept_after (Err stop) kept line = kept
 
 -- if lines are asked for, this one can be kept without memory

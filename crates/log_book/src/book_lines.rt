@@ -1,20 +1,22 @@
 // What a book does: it takes lines, and ends.
-ghost use Rattle.std.specs.Prelude.{◌≡◌, ◌<◌, ◌^◌, ◌≤◌, ◌⊎◌, length, ◌++◌, ◌∷◌, [], true, false, is_err, List, IfOk, IfErr, OnOk, OnErr, MatchResult, Bool};
+ghost use Rattle.std.specs.Prelude.{◌≡◌, ◌+◌, ◌<◌, ◌^◌, ◌≤◌, ◌⊎◌, length, ◌++◌, ◌∷◌, [], true, false, is_err, List, IfOk, IfErr, OnOk, OnErr, MatchResult, Bool};
 ghost use Rattle.std.specs.Option.{option_map};
 ghost use Rattle.std.specs.Io.KnownBytes.{append_known};
 ghost use Rattle.io_edge.specs.Bytes.{IsFront};
 ghost use Rattle.io_edge.specs.Causes.{HasCause, Rose};
 ghost use Rattle.io_edge.specs.Paths.{IsEmptyWhereTold};
 ghost use Rattle.sat_words.specs.Literal.{Literal};
+ghost use Rattle.sat_words.specs.declared.line.Line.TheVariants.{Add, Del};
 ghost use Rattle.sat_words.specs.declared.line.ProofFormat.{ProofFormat};
 ghost use Rattle.sat_words.specs.declared.shared.TheConstants.{MAX_ENTRIES};
 ghost use Rattle.rup_model.specs.declared.journal.Round.{Round as RoundStart};
 ghost use Rattle.rup_model.specs.declared.journal.Entry.{Entry};
 ghost use Rattle.rup_model.specs.declared.journal.Entry.TheVariants.{Round};
+ghost use Rattle.rup_model.specs.NumberedLines.{Added, Deleted};
 ghost use Rattle.drat_text.specs.JournalText.{Origin};
 ghost use Rattle.share_rule.specs.declared.Layout.{Layout};
 ghost use Rattle.share_rule.specs.Books.{HasLog};
-ghost use Rattle.log_book.specs.Books.{ends, begun, told_of, told_new, account_of, origin_of, IsNew, IsFilled, IsFrom, IsCutOff, IsCutLog, IsLogOf, AreAlike, CountsOneMore, IsFull, HasPut, HasFailed};
+ghost use Rattle.log_book.specs.Books.{begun, told_of, told_new, account_of, origin_of, IsNew, IsFilled, IsFrom, IsCutOff, IsCutLog, IsLogOf, AreAlike, CountsOneMore, IsFull, HasPut, HasFailed};
 ghost use Rattle.log_book.specs.Ended.{HasEnded};
 ghost use Rattle.log_book.specs.Kept.{IsReady};
 
@@ -23,18 +25,8 @@ use crate::log_lines::LogLines;
 use clause_cell::Holes;
 use drat_text::{LineOut, LineStop};
 use io_edge::{Failed, Sink};
-use sat_words::{Line, MAX_ENTRIES, ProofFormat};
+use sat_words::{Line, Lit, MAX_ENTRIES, ProofFormat};
 use std::alloc::{AllocError, AllocFailed, Global};
-
-/// Whether the line adds the empty clause.
-fn is_end(line: &Line) -> bool
-    ensures { result ≡ ends line.now }
-{
-    match line {
-        Line::Add(lits) => lits.as_slice().is_empty(),
-        Line::Del(_) => false,
-    }
-}
 
 impl<S: Sink> Book<S> {
     /// A book for a formula of this many clauses, in a sink to which nothing was written. It has no line yet, and no word is
@@ -85,26 +77,55 @@ impl<S: Sink> Book<S> {
             → IsCutLog S.written S.flushed S.target S.faults f sink self.now l F J }
     {}
 
-    /// Makes ready for the line: what follows takes no memory.
-    pub(crate) fn prepare(&mut self, line: &Line) -> Result<(), AllocError>
+    /// Makes ready for the line that adds the clause: what follows takes no memory.
+    pub(crate) fn prepare_addition(&mut self, lits: &[Lit]) -> Result<(), AllocError>
         ensures same { AreAlike self.old self.new }
-        ensures ready { OnOk result (IsReady self.new.log.kept line.now) }
+        ensures ready { OnOk result (IsReady self.new.log.kept (Add lits.now)) }
     {
-        self.log.prepare(line)
+        self.log.prepare_addition(lits)
     }
 
-    /// Puts the line after the others, and answers the number of an addition.
-    pub(crate) fn write(&mut self, line: &Line) -> Result<u64, Failed>
+    /// Makes ready for the line that deletes the clause: what follows takes no memory.
+    pub(crate) fn prepare_deletion(&mut self, lits: &[Lit]) -> Result<(), AllocError>
+        ensures same { AreAlike self.old self.new }
+        ensures ready { OnOk result (IsReady self.new.log.kept (Del lits.now)) }
+    {
+        self.log.prepare_deletion(lits)
+    }
+
+    /// Puts the line that adds the clause after the others, with these hints, and answers its number.
+    pub(crate) fn write_addition(&mut self, lits: &[Lit], hints: &[u64]) -> Result<u64, Failed>
         requires unspent { self.old.log.lines.spent ≡ false }
         requires room { self.old.entries < MAX_ENTRIES }
-        requires ready { IsReady self.old.log.kept line.now }
-        ensures { MatchResult result (λ n. HasPut S.written S.flushed S.target S.faults self.old self.new line.now n) (λ _. HasFailed S.written S.flushed S.target S.faults self.old self.new line.now) }
+        requires ready { IsReady self.old.log.kept (Add lits.now) }
+        ensures put { MatchResult result (λ _. HasPut S.written S.flushed S.target S.faults self.old self.new (Added (self.old.log.lines.last + 1) lits.now hints.now)) (λ _. HasFailed S.written S.flushed S.target S.faults self.old self.new (Added (self.old.log.lines.last + 1) lits.now hints.now)) }
+        ensures number { IfOk result (λ n. n ≡ self.old.log.lines.last + 1) }
     {
-        match self.log.put(line) {
+        match self.log.add(lits, hints) {
             Ok(number) => {
-                self.ended = self.ended || is_end(line);
+                self.ended = self.ended || lits.is_empty();
                 self.entries += 1;
                 Ok(number)
+            }
+            Err(LineStop::ProofFault) => Err(Failed),
+            // `room`: fewer lines stand
+            Err(LineStop::Full) => unreachable!(),
+            // `ready`: what the line needs was taken before
+            Err(LineStop::Memory) => unreachable!(),
+        }
+    }
+
+    /// Puts the line that deletes the clause with this number after the others.
+    pub(crate) fn write_deletion(&mut self, number: u64, lits: &[Lit]) -> Result<(), Failed>
+        requires unspent { self.old.log.lines.spent ≡ false }
+        requires room { self.old.entries < MAX_ENTRIES }
+        requires ready { IsReady self.old.log.kept (Del lits.now) }
+        ensures { MatchResult result (λ _. HasPut S.written S.flushed S.target S.faults self.old self.new (Deleted self.old.log.lines.last number lits.now)) (λ _. HasFailed S.written S.flushed S.target S.faults self.old self.new (Deleted self.old.log.lines.last number lits.now)) }
+    {
+        match self.log.del(number, lits) {
+            Ok(()) => {
+                self.entries += 1;
+                Ok(())
             }
             Err(LineStop::ProofFault) => Err(Failed),
             // `room`: fewer lines stand
@@ -166,15 +187,32 @@ impl<S: Sink> LineOut for Book<S> {
 
     ghost told = { told_of S.written S.flushed S.target S.faults };
 
-    fn put(&mut self, line: &Line) -> Result<u64, LineStop> {
+    fn format(&self) -> ProofFormat {
+        self.log.format()
+    }
+
+    fn add(&mut self, lits: &[Lit], hints: &[u64]) -> Result<u64, LineStop> {
         if self.entries == MAX_ENTRIES {
             return Err(LineStop::Full);
         }
-        if self.prepare(line).is_err() {
+        if self.prepare_addition(lits).is_err() {
             return Err(LineStop::Memory);
         }
-        match self.write(line) {
+        match self.write_addition(lits, hints) {
             Ok(number) => Ok(number),
+            Err(Failed) => Err(LineStop::ProofFault),
+        }
+    }
+
+    fn del(&mut self, number: u64, lits: &[Lit]) -> Result<(), LineStop> {
+        if self.entries == MAX_ENTRIES {
+            return Err(LineStop::Full);
+        }
+        if self.prepare_deletion(lits).is_err() {
+            return Err(LineStop::Memory);
+        }
+        match self.write_deletion(number, lits) {
+            Ok(()) => Ok(()),
             Err(Failed) => Err(LineStop::ProofFault),
         }
     }

@@ -38,13 +38,7 @@ impl<S: Sink> Turn<S> {
     }
 
     /// Adds a unit, and gives its number.
-    pub fn add_unit(
-        &mut self,
-        pass: &Pass<Book<S>>,
-        alloc: Global,
-        kind: Kind,
-        lit: Lit,
-    ) -> Result<u64, TurnStop>
+    pub fn add_unit(&mut self, pass: &Pass<Book<S>>, kind: Kind, lit: Lit) -> Result<u64, TurnStop>
         requires seen { Seen pass.now.me.0 }
         requires turn { IsTurn S.written S.flushed S.target S.faults pass.now.me.0 self.old }
         requires note { MayNext pass.now.me.0 self.old (UnitNote kind lit) }
@@ -53,14 +47,14 @@ impl<S: Sink> Turn<S> {
         ensures stopped { IfErr result (Refused S.written S.flushed S.target S.faults pass.now.me.0 self.old self.new) }
         ensures cause { IfErr result (IsCause S.faults pass.now.me.0 self.old self.new) }
     {
-        match self.write_unit(alloc, pass, kind, lit) {
+        match self.write_unit(pass, kind, lit) {
             Ok(given) => Ok(given),
             Err(stop) => Err(self.refuse(pass, stop)),
         }
     }
 
     /// Adds the empty clause, which ends the log.
-    pub fn add_empty(&mut self, pass: &Pass<Book<S>>, alloc: Global) -> Result<(), TurnStop>
+    pub fn add_empty(&mut self, pass: &Pass<Book<S>>) -> Result<(), TurnStop>
         requires seen { Seen pass.now.me.0 }
         requires turn { IsTurn S.written S.flushed S.target S.faults pass.now.me.0 self.old }
         requires note { MayNext pass.now.me.0 self.old Empty }
@@ -68,7 +62,7 @@ impl<S: Sink> Turn<S> {
         ensures stopped { IfErr result (Refused S.written S.flushed S.target S.faults pass.now.me.0 self.old self.new) }
         ensures cause { IfErr result (IsCause S.faults pass.now.me.0 self.old self.new) }
     {
-        match self.write_empty(alloc, pass) {
+        match self.write_empty(pass) {
             Ok(()) => Ok(()),
             Err(stop) => Err(self.refuse(pass, stop)),
         }
@@ -93,19 +87,20 @@ impl<S: Sink> Turn<S> {
     pub fn bury(
         &mut self,
         pass: &Pass<Book<S>>,
-        alloc: Global,
         cell: Cref,
+        number: u64,
         lits: &[Lit],
     ) -> Result<(), TurnStop>
         requires seen { Seen pass.now.me.0 }
         requires turn { IsTurn S.written S.flushed S.target S.faults pass.now.me.0 self.old }
         requires note { MayNext pass.now.me.0 self.old (Bury cell.address) }
+        requires number { number ≡ (waiting pass.now.me.0 self.old cell.address).number }
         requires clause { lits.now ≡ (waiting pass.now.me.0 self.old cell.address).lits }
         ensures added { OnOk result (Grown S.written S.flushed S.target S.faults pass.now.me.0 self.old self.new (Bury cell.address)) }
         ensures stopped { IfErr result (Refused S.written S.flushed S.target S.faults pass.now.me.0 self.old self.new) }
         ensures cause { IfErr result (IsCause S.faults pass.now.me.0 self.old self.new) }
     {
-        match self.write_deletion(alloc, pass, cell, lits) {
+        match self.write_deletion(pass, cell, number, lits) {
             Ok(()) => Ok(()),
             Err(stop) => Err(self.refuse(pass, stop)),
         }

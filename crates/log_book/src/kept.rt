@@ -1,11 +1,13 @@
 // The lines, if they are asked for.
-ghost use Rattle.std.specs.Prelude.{◌≡◌, [], ◌∷◌, IfOk, OnOk};
+ghost use Rattle.std.specs.Prelude.{◌≡◌, [], ◌∷◌, OnOk};
 ghost use Rattle.std.specs.Option.{option_map};
+ghost use Rattle.sat_words.specs.declared.line.Line.{Line};
+ghost use Rattle.sat_words.specs.declared.line.Line.TheVariants.{Add, Del};
 ghost use Rattle.drat_text.specs.LineState.{with_lines};
 ghost use Rattle.log_book.specs.Kept.{IsReady};
 ghost use Rattle.log_book.specs.Books.{no_line};
 
-use sat_words::{Line, Lits};
+use sat_words::{Line, Lit, Lits};
 use std::alloc::{AllocError, Global};
 use std::marker::Model;
 
@@ -27,15 +29,6 @@ impl Model for Kept {
     ghost view = { λ k. record { lines = option_map (λ v. v.items) k.lines; room = unwrap_or (option_map (λ v. vec_capacity v - vec_len v) k.lines) 1; next = k.next } };
 }
 
-fn copy_of(alloc: Global, line: &Line) -> Result<Line, AllocError>
-    ensures { IfOk result (λ copy. copy ≡ line.now) }
-{
-    match line {
-        Line::Add(lits) => Ok(Line::Add(Lits::from_slice(alloc, lits.as_slice())?)),
-        Line::Del(lits) => Ok(Line::Del(Lits::from_slice(alloc, lits.as_slice())?)),
-    }
-}
-
 impl Kept {
     /// No line yet.
     pub(crate) fn new(alloc: Global, asked: bool) -> Kept
@@ -48,22 +41,34 @@ impl Kept {
         }
     }
 
-    /// Makes ready to keep the line.
-    pub(crate) fn prepare(&mut self, line: &Line) -> Result<(), AllocError>
+    /// Makes ready to keep the line that adds the clause.
+    pub(crate) fn prepare_addition(&mut self, lits: &[Lit]) -> Result<(), AllocError>
         ensures same { self.new.lines ≡ self.old.lines }
-        ensures ready { OnOk result (IsReady self.new line.now) }
+        ensures ready { OnOk result (IsReady self.new (Add lits.now)) }
     {
         if let Some(lines) = &mut self.lines {
             lines.reserve(1)?;
-            self.next = Some(copy_of(self.alloc, line)?);
+            self.next = Some(Line::Add(Lits::from_slice(self.alloc, lits)?));
         }
         Ok(())
     }
 
-    /// Keeps the line after the others.
-    pub(crate) fn keep(&mut self, _line: &Line)
-        requires { IsReady self.old _line.now }
-        ensures { self.new.lines ≡ with_lines self.old.lines (_line.now ∷ []) }
+    /// Makes ready to keep the line that deletes the clause.
+    pub(crate) fn prepare_deletion(&mut self, lits: &[Lit]) -> Result<(), AllocError>
+        ensures same { self.new.lines ≡ self.old.lines }
+        ensures ready { OnOk result (IsReady self.new (Del lits.now)) }
+    {
+        if let Some(lines) = &mut self.lines {
+            lines.reserve(1)?;
+            self.next = Some(Line::Del(Lits::from_slice(self.alloc, lits)?));
+        }
+        Ok(())
+    }
+
+    /// Keeps the line that comes next, after the others.
+    pub(crate) fn keep(&mut self)
+        requires { (x : Line) × IsReady self.old x }
+        ensures { (x : Line) → IsReady self.old x → self.new.lines ≡ with_lines self.old.lines (x ∷ []) }
     {
         if let Some(lines) = &mut self.lines {
             if let Some(line) = self.next.take() {

@@ -1,10 +1,12 @@
 // The lines on their way to the sink, of which a list is kept if that is asked for.
-ghost use Rattle.std.specs.Prelude.{◌≡◌, ◌≢◌, ◌≤◌, ◌^◌, [], true, false, Err, is_err, IfOk, IfErr, OnOk, OnErr};
+ghost use Rattle.std.specs.Prelude.{◌≡◌, ◌≢◌, ◌≤◌, ◌+◌, ◌^◌, [], true, false, Err, is_err, IfOk, IfErr, OnOk, OnErr};
 ghost use Rattle.std.specs.Option.{option_map};
 ghost use Rattle.std.specs.Io.KnownBytes.{append_known};
 ghost use Rattle.io_edge.specs.Bytes.{IsFront};
 ghost use Rattle.io_edge.specs.Causes.{HasCause};
 ghost use Rattle.io_edge.specs.Paths.{IsEmptyWhereTold};
+ghost use Rattle.sat_words.specs.declared.line.Line.TheVariants.{Add, Del};
+ghost use Rattle.rup_model.specs.NumberedLines.{Added, Deleted};
 ghost use Rattle.drat_text.specs.LineOut.{WasPut};
 ghost use Rattle.drat_text.specs.SinkData.{told_by, begun_lines};
 ghost use Rattle.drat_text.specs.declared.stop.LineStop.TheVariants.{Memory};
@@ -14,7 +16,7 @@ ghost use Rattle.log_book.specs.Books.{no_line};
 use crate::kept::Kept;
 use drat_text::{LineOut, LineStop, SinkLines};
 use io_edge::{Failed, Sink};
-use sat_words::{Line, ProofFormat};
+use sat_words::{Line, Lit, ProofFormat};
 use std::alloc::{AllocError, AllocFailed, Global};
 use std::marker::Model;
 
@@ -77,29 +79,60 @@ impl<S: Sink> LogLines<S> {
         self.last
     }
 
-    /// Makes ready for the line: what follows takes no memory.
-    pub(crate) fn prepare(&mut self, line: &Line) -> Result<(), AllocError>
-        ensures same { (self.new.lines ≡ self.old.lines) × (self.new.kept.lines ≡ self.old.kept.lines) }
-        ensures ready { OnOk result (IsReady self.new.kept line.now) }
+    /// How the lines are spelled.
+    pub(crate) fn format(&self) -> ProofFormat
+        ensures { result ≡ self.now.lines.format }
     {
-        self.kept.prepare(line)
+        self.lines.format()
     }
 
-    /// Puts the line after the others, and keeps it if it stands.
-    pub(crate) fn put(&mut self, line: &Line) -> Result<u64, LineStop>
+    /// Makes ready for the line that adds the clause: what follows takes no memory.
+    pub(crate) fn prepare_addition(&mut self, lits: &[Lit]) -> Result<(), AllocError>
+        ensures same { (self.new.lines ≡ self.old.lines) × (self.new.kept.lines ≡ self.old.kept.lines) }
+        ensures ready { OnOk result (IsReady self.new.kept (Add lits.now)) }
+    {
+        self.kept.prepare_addition(lits)
+    }
+
+    /// Makes ready for the line that deletes the clause: what follows takes no memory.
+    pub(crate) fn prepare_deletion(&mut self, lits: &[Lit]) -> Result<(), AllocError>
+        ensures same { (self.new.lines ≡ self.old.lines) × (self.new.kept.lines ≡ self.old.kept.lines) }
+        ensures ready { OnOk result (IsReady self.new.kept (Del lits.now)) }
+    {
+        self.kept.prepare_deletion(lits)
+    }
+
+    /// Puts the line that adds the clause after the others, with these hints, and keeps it if it stands.
+    pub(crate) fn add(&mut self, lits: &[Lit], hints: &[u64]) -> Result<u64, LineStop>
         requires unspent { self.old.lines.spent ≡ false }
-        requires ready { IsReady self.old.kept line.now }
-        ensures put { WasPut (told_by S.written S.flushed S.target S.faults self.old.lines) (told_by S.written S.flushed S.target S.faults self.new.lines) line.now result }
-        ensures kept { self.new.kept.lines ≡ kept_after result self.old.kept.lines line.now }
+        requires ready { IsReady self.old.kept (Add lits.now) }
+        ensures put { WasPut (told_by S.written S.flushed S.target S.faults self.old.lines) (told_by S.written S.flushed S.target S.faults self.new.lines) (Added (self.old.lines.last + 1) lits.now hints.now) result }
+        ensures number { IfOk result (λ n. n ≡ self.old.lines.last + 1) }
+        ensures kept { self.new.kept.lines ≡ kept_after result self.old.kept.lines (Add lits.now) }
         ensures memory { result ≢ Err Memory }
     {
-        match self.lines.put(line) {
+        match self.lines.add(lits, hints) {
             Ok(number) => {
-                self.kept.keep(line);
-                if number > 0 {
-                    self.last = number;
-                }
+                self.kept.keep();
+                self.last = number;
                 Ok(number)
+            }
+            Err(stop) => Err(stop),
+        }
+    }
+
+    /// Puts the line that deletes the clause with this number after the others, and keeps it if it stands.
+    pub(crate) fn del(&mut self, number: u64, lits: &[Lit]) -> Result<(), LineStop>
+        requires unspent { self.old.lines.spent ≡ false }
+        requires ready { IsReady self.old.kept (Del lits.now) }
+        ensures put { WasPut (told_by S.written S.flushed S.target S.faults self.old.lines) (told_by S.written S.flushed S.target S.faults self.new.lines) (Deleted self.old.lines.last number lits.now) result }
+        ensures kept { self.new.kept.lines ≡ kept_after result self.old.kept.lines (Del lits.now) }
+        ensures memory { result ≢ Err Memory }
+    {
+        match self.lines.del(number, lits) {
+            Ok(()) => {
+                self.kept.keep();
+                Ok(())
             }
             Err(stop) => Err(stop),
         }

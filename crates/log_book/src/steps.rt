@@ -1,5 +1,6 @@
 // What each write of a turn begins and ends with.
 ghost use Rattle.std.specs.Prelude.{◌≡◌, ◌≢◌, ◌<◌, Err, IfErr, OnOk, vec_len, vec_capacity};
+ghost use Rattle.sat_words.specs.declared.line.Line.TheVariants.{Add, Del};
 ghost use Rattle.share_rule.specs.Seen.{Seen};
 ghost use Rattle.log_book.specs.Books.{AreAlike};
 ghost use Rattle.log_book.specs.Kept.{IsReady};
@@ -10,7 +11,7 @@ use crate::book::Book;
 use crate::stop::TurnStop;
 use crate::turn::Turn;
 use io_edge::Sink;
-use sat_words::{Line, MAX_ENTRIES};
+use sat_words::{Lit, MAX_ENTRIES};
 use share_rule::{Pass, Refusal};
 use std::alloc::AllocError;
 
@@ -53,15 +54,26 @@ impl<S: Sink> Turn<S> {
         Ok(())
     }
 
-    /// Makes ready for the line and its note: what follows takes no memory.
-    pub(crate) fn make_room(&mut self, line: &Line) -> Result<(), AllocError>
+    /// Makes ready for the line that adds the clause, and for its note: what follows takes no memory.
+    pub(crate) fn make_room_to_add(&mut self, lits: &[Lit]) -> Result<(), AllocError>
         ensures noted { (self.new.noted.items ≡ self.old.noted.items) × (self.new.refused ≡ self.old.refused) }
         ensures same { AreAlike self.old.book self.new.book }
         ensures room { OnOk result (vec_len self.new.noted < vec_capacity self.new.noted) }
-        ensures ready { OnOk result (IsReady self.new.book.log.kept line.now) }
+        ensures ready { OnOk result (IsReady self.new.book.log.kept (Add lits.now)) }
     {
         self.noted.reserve(1)?;
-        self.book.prepare(line)
+        self.book.prepare_addition(lits)
+    }
+
+    /// Makes ready for the line that deletes the clause, and for its note: what follows takes no memory.
+    pub(crate) fn make_room_to_delete(&mut self, lits: &[Lit]) -> Result<(), AllocError>
+        ensures noted { (self.new.noted.items ≡ self.old.noted.items) × (self.new.refused ≡ self.old.refused) }
+        ensures same { AreAlike self.old.book self.new.book }
+        ensures room { OnOk result (vec_len self.new.noted < vec_capacity self.new.noted) }
+        ensures ready { OnOk result (IsReady self.new.book.log.kept (Del lits.now)) }
+    {
+        self.noted.reserve(1)?;
+        self.book.prepare_deletion(lits)
     }
 
     /// Notes a refusal.

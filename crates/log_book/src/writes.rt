@@ -1,7 +1,6 @@
 // What a turn writes.
 ghost use Rattle.std.specs.Prelude.{◌≡◌, ◌≤◌, ◌<◌, ◌⊎◌, length, IfOk, IfErr, OnOk};
 ghost use Rattle.share_rule.specs.declared.note.Note.TheVariants.{Clause, Unit as UnitNote, Empty, Reduce, Bury};
-ghost use Rattle.rup_model.specs.Log.{lits_of};
 ghost use Rattle.share_rule.specs.Seen.{Seen};
 ghost use Rattle.share_rule.specs.Turns.{next_number};
 ghost use Rattle.clause_cell.specs.Free.{largest};
@@ -14,24 +13,13 @@ use crate::turn::Turn;
 use clause_cell::{HoleStop, words_for};
 use io_edge::{Failed, Sink};
 use rup_model::Kind;
-use sat_words::{Cref, Line, Lit, Lits};
+use sat_words::{Cref, Lit, Lits};
 use share_rule::{Note, Pass};
 use std::alloc::Global;
-
-/// The literals of a line, taken out of it.
-fn lits_in(line: Line) -> Lits
-    ensures { result ≡ lits_of line }
-{
-    match line {
-        Line::Add(lits) => lits,
-        Line::Del(lits) => lits,
-    }
-}
 
 impl<S: Sink> Turn<S> {
     pub(crate) fn write_unit(
         &mut self,
-        alloc: Global,
         pass: &Pass<Book<S>>,
         kind: Kind,
         lit: Lit,
@@ -47,14 +35,11 @@ impl<S: Sink> Turn<S> {
         if let Err(stop) = self.test(pass) {
             return Err(stop);
         }
-        let Ok(lits) = Lits::from_slice(alloc, &[lit]) else {
-            return Err(TurnStop::Memory);
-        };
-        let line = Line::Add(lits);
-        if self.make_room(&line).is_err() {
+        let lits = [lit];
+        if self.make_room_to_add(&lits).is_err() {
             return Err(TurnStop::Memory);
         }
-        match self.book.write(&line) {
+        match self.book.write_addition(&lits, &[]) {
             Ok(number) => {
                 self.noted.push_reserved(Note::Unit { kind, lit });
                 Ok(number)
@@ -63,11 +48,7 @@ impl<S: Sink> Turn<S> {
         }
     }
 
-    pub(crate) fn write_empty(
-        &mut self,
-        alloc: Global,
-        pass: &Pass<Book<S>>,
-    ) -> Result<(), TurnStop>
+    pub(crate) fn write_empty(&mut self, pass: &Pass<Book<S>>) -> Result<(), TurnStop>
         requires seen { Seen pass.now.me.0 }
         requires turn { IsTurn S.written S.flushed S.target S.faults pass.now.me.0 self.old }
         requires note { MayNext pass.now.me.0 self.old Empty }
@@ -78,11 +59,10 @@ impl<S: Sink> Turn<S> {
         if let Err(stop) = self.test(pass) {
             return Err(stop);
         }
-        let line = Line::Add(Lits::from_vec(Vec::new(alloc)));
-        if self.make_room(&line).is_err() {
+        if self.make_room_to_add(&[]).is_err() {
             return Err(TurnStop::Memory);
         }
-        match self.book.write(&line) {
+        match self.book.write_addition(&[], &[]) {
             Ok(_) => {
                 self.noted.push_reserved(Note::Empty);
                 Ok(())
@@ -112,14 +92,15 @@ impl<S: Sink> Turn<S> {
 
     pub(crate) fn write_deletion(
         &mut self,
-        alloc: Global,
         pass: &Pass<Book<S>>,
         cell: Cref,
+        number: u64,
         lits: &[Lit],
     ) -> Result<(), TurnStop>
         requires seen { Seen pass.now.me.0 }
         requires turn { IsTurn S.written S.flushed S.target S.faults pass.now.me.0 self.old }
         requires note { MayNext pass.now.me.0 self.old (Bury cell.address) }
+        requires number { number ≡ (waiting pass.now.me.0 self.old cell.address).number }
         requires clause { lits.now ≡ (waiting pass.now.me.0 self.old cell.address).lits }
         ensures added { OnOk result (Grown S.written S.flushed S.target S.faults pass.now.me.0 self.old self.new (Bury cell.address)) }
         ensures stopped { IfErr result (Stopped S.written S.flushed S.target S.faults pass.now.me.0 self.old self.new) }
@@ -128,19 +109,15 @@ impl<S: Sink> Turn<S> {
         if let Err(stop) = self.test(pass) {
             return Err(stop);
         }
-        let Ok(copy) = Lits::from_slice(alloc, lits) else {
-            return Err(TurnStop::Memory);
-        };
-        let line = Line::Del(copy);
-        if self.make_room(&line).is_err() {
+        if self.make_room_to_delete(lits).is_err() {
             return Err(TurnStop::Memory);
         }
         let words = words_for(lits.len() as u32);
         let Ok(()) = self.book.holes.give(cell.address, words) else {
             return Err(TurnStop::Memory);
         };
-        match self.book.write(&line) {
-            Ok(_) => {
+        match self.book.write_deletion(number, lits) {
+            Ok(()) => {
                 self.noted.push_reserved(Note::Bury {
                     address: cell.address,
                 });
@@ -184,8 +161,7 @@ impl<S: Sink> Turn<S> {
         let Ok(copy) = Lits::from_slice(alloc, lits) else {
             return Err(self.no_memory(need));
         };
-        let line = Line::Add(copy);
-        if self.make_room(&line).is_err() {
+        if self.make_room_to_add(lits).is_err() {
             return Err(self.no_memory(need));
         }
         let address = match self.book.holes.take(need) {
@@ -196,11 +172,11 @@ impl<S: Sink> Turn<S> {
             // `none` of `Holes::take`: it refuses only if no hole is long enough
             Err(HoleStop::Memory) => unreachable!(),
         };
-        match self.book.write(&line) {
+        match self.book.write_addition(lits, &[]) {
             Ok(_) => {
                 self.noted.push_reserved(Note::Clause {
                     kind,
-                    lits: lits_in(line),
+                    lits: copy,
                     glue,
                     address,
                 });

@@ -1,6 +1,7 @@
 -- The lines of a journal that goes on, in one output.
 use Rattle.std.proofs.Common.{◌≡◌, ◌∙◌, ℕ, Bool, true, false, List, [], ◌∷◌, ◌++◌, Some, None, refl, sym, ap, subst, arith, append_assoc, append-nil, true≢false}
 use Rattle.std.specs.Prelude.{is_some}
+use Rattle.std.specs.List.{fold}
 use Rattle.std.specs.declared.option.Option.{Option}
 use Rattle.std.specs.Io.KnownBytes.{append_known}
 use Rattle.io_edge.specs.Paths.{IsEmptyWhereTold}
@@ -10,7 +11,8 @@ use Rattle.sat_words.specs.Literal.{Literal}
 use Rattle.sat_words.specs.declared.line.Line.{Line}
 use Rattle.sat_words.specs.declared.line.ProofFormat.{ProofFormat}
 use Rattle.rup_model.specs.declared.journal.Entry.{Entry}
-use Rattle.rup_model.specs.Journal.{book, lines, lines_from}
+use Rattle.rup_model.specs.Journal.{Book, formula_book, book_after, book, lines, lines_from}
+use Rattle.rup_model.specs.NumberedLines.{NumberedLine, numbered_after, numbered_from, numbered_lines}
 use Rattle.rup_model.proofs.Numbers.{lines_both}
 use Rattle.drat_text.specs.LineState.{LineState, with_lines}
 use Rattle.drat_text.specs.Text.{CanBeSpelled}
@@ -21,9 +23,15 @@ use Rattle.log_book.specs.Books.{begun, no_byte, no_line, IsFilled, IsCutOff}
 
 -- Bytes and lines
 
-bytes_both : (f : ProofFormat) (L M : List Line) → proof_bytes f (L ++ M) ≡ proof_bytes f L ++ proof_bytes f M
+bytes_both : (f : ProofFormat) (L M : List NumberedLine) → proof_bytes f (L ++ M) ≡ proof_bytes f L ++ proof_bytes f M
 bytes_both f [] M = refl
 bytes_both f (x ∷ L) M = ap (λ (bs : List ℕ). spelling f x ++ bs) (bytes_both f L M) ∙ sym (append_assoc (spelling f x) (proof_bytes f L) (proof_bytes f M))
+
+numbered_both : (b : Book) (J K : List Entry) → numbered_from b (J ++ K) ≡ numbered_from b J ++ numbered_from (fold book_after b J) K
+numbered_both b [] K = refl
+numbered_both b (e ∷ J) K =
+    ap (λ (N : List NumberedLine). numbered_after b e ++ N) (numbered_both (book_after b e) J K)
+    ∙ sym (append_assoc (numbered_after b e) (numbered_from (book_after b e) J) (numbered_from (fold book_after (book_after b e) J) K))
 
 kept_both : (kept : Option (List Line)) (L M : List Line) → with_lines (with_lines kept L) M ≡ with_lines kept (L ++ M)
 kept_both None L M = refl
@@ -66,9 +74,16 @@ module _ (F : List (List Literal)) (before old new : LineState) (J mine : List E
   both : lines F (J ++ mine) ≡ L ++ M
   both = lines_both F J mine
 
+  -- with their numbers
+  abbrev N : List NumberedLine
+  N = numbered_lines F J
+
+  abbrev O : List NumberedLine
+  O = numbered_from (book F J) mine
+
   -- the bytes of all
-  all_bytes : (f : ProofFormat) → proof_bytes f L ++ proof_bytes f M ≡ proof_bytes f (lines F (J ++ mine))
-  all_bytes f = sym (bytes_both f L M) ∙ ap (proof_bytes f) (sym both)
+  all_bytes : (f : ProofFormat) → proof_bytes f N ++ proof_bytes f O ≡ proof_bytes f (numbered_lines F (J ++ mine))
+  all_bytes f = sym (bytes_both f N O) ∙ ap (proof_bytes f) (sym (numbered_both (formula_book F) J mine))
 
   module _ (was : HasText first J old) where
     pub text_on : HasText next mine new → HasText first (J ++ mine) new
@@ -76,8 +91,8 @@ module _ (F : List (List Literal)) (before old new : LineState) (J mine : List E
       quiet = h.quiet ∙ was.quiet;
       format = h.format ∙ was.format;
       bytes =
-          h.bytes ∙ (λ i. append_known (was.bytes i) (proof_bytes (was.format i) M))
-          ∙ append_known-append before.written (proof_bytes before.format L) (proof_bytes before.format M) ∙ ap (append_known before.written) (all_bytes before.format);
+          h.bytes ∙ (λ i. append_known (was.bytes i) (proof_bytes (was.format i) O))
+          ∙ append_known-append before.written (proof_bytes before.format N) (proof_bytes before.format O) ∙ ap (append_known before.written) (all_bytes before.format);
       kept = h.kept ∙ ap (λ (k : Option (List Line)). with_lines k M) was.kept ∙ kept_both before.kept L M ∙ ap (with_lines before.kept) (sym both);
     }
 
@@ -93,9 +108,9 @@ module _ (F : List (List Literal)) (before old new : LineState) (J mine : List E
           front = record {
             rest = h.front.rest;
             whole =
-                ap (append_known before.written) (ap (λ (bs : List ℕ). bs ++ more) (sym (all_bytes f)) ∙ append_assoc (proof_bytes f L) (proof_bytes f M) more)
-                ∙ sym (append_known-append before.written (proof_bytes f L) (proof_bytes f M ++ more))
-                ∙ (λ i. append_known (sym was.bytes i) (proof_bytes (sym was.format i) M ++ spelling (sym was.format i) h.line)) ∙ h.front.whole;
+                ap (append_known before.written) (ap (λ (bs : List ℕ). bs ++ more) (sym (all_bytes f)) ∙ append_assoc (proof_bytes f N) (proof_bytes f O) more)
+                ∙ sym (append_known-append before.written (proof_bytes f N) (proof_bytes f O ++ more))
+                ∙ (λ i. append_known (sym was.bytes i) (proof_bytes (sym was.format i) O ++ spelling (sym was.format i) h.line)) ∙ h.front.whole;
           };
         }
 

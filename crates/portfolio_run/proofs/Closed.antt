@@ -6,16 +6,15 @@ use Rattle.std.specs.declared.option.Option.{Option}
 use Rattle.std.specs.Io.KnownBytes.{append_known}
 use Rattle.std.proofs.lemmas.Bool.{cases_Bool}
 use Rattle.std.proofs.lemmas.List.Elements.{All-append}
-use mathlib.Core.Logic.{dite}
-use native.Mathlib.Decide.{ℕ_discrete}
 use Rattle.io_edge.specs.Causes.{Rose}
 use Rattle.io_edge.specs.Paths.{IsEmptyWhereTold}
 use Rattle.atomic_table.specs.declared.shared.Seat.{Seat}
+use Rattle.sat_words.specs.Formats.{has_hints}
 use Rattle.sat_words.specs.Literal.{Literal, IsOn}
 use Rattle.sat_words.specs.FormulaData.{FormulaData}
-use Rattle.sat_words.specs.declared.shared.TheConstants.{STOP_MEMORY, STOP_PROOF}
 use Rattle.rup_model.specs.declared.journal.Entry.{Entry}
 use Rattle.rup_model.specs.Journal.{book, lines, added}
+use Rattle.rup_model.specs.NumberedLines.{numbered_lines}
 use Rattle.model_stack.specs.declared.stack.Fix.{Fix}
 use Rattle.model_stack.specs.Extend.{Lifts}
 use Rattle.drat_text.specs.LineState.{LineState}
@@ -24,7 +23,6 @@ use Rattle.drat_text.specs.JournalText.{HasText}
 use Rattle.drat_text.specs.declared.stop.LineStop.{LineStop}
 use Rattle.share_core.specs.declared.part.CoreOpening.{CoreOpening}
 use Rattle.share_core.specs.Sound.{Sound}
-use Rattle.share_core.proofs.Counting.{some_same}
 use Rattle.share_core.proofs.Leaving.{left_sound}
 use Rattle.share_rule.specs.declared.Layout.{Layout}
 use Rattle.share_rule.specs.declared.Shared.{Shared}
@@ -58,14 +56,13 @@ use Rattle.portfolio_run.specs.Room.{layout_of}
 use Rattle.portfolio_run.specs.Ruled.{schedule_of}
 use Rattle.portfolio_run.specs.Rulings.{AreDropped}
 use Rattle.portfolio_run.specs.Searched.{AllSpent, WasWon, HasRunTo, HasSearched}
-use Rattle.portfolio_run.specs.Solved.{IsReached}
 use Rattle.portfolio_run.specs.Tables.{HasSettled, WasSpent}
 use Rattle.portfolio_run.proofs.Appending.{no_byte_there, kept_all}
 use Rattle.portfolio_run.proofs.Closing.{rests_long, resumes, are_dropped, lifts}
 use Rattle.portfolio_run.proofs.Gathered.{began_with, journal_at, records}
 use Rattle.portfolio_run.proofs.GoneOn.{ComesTo, stopped_early, stopped_late, refuted, paused}
 use Rattle.portfolio_run.proofs.Passed.{HavePassed}
-use Rattle.portfolio_run.proofs.Pausing.{rests_still, through_still}
+use Rattle.portfolio_run.proofs.Pausing.{rests_still}
 use Rattle.portfolio_run.proofs.Resting.{IsResting, journal_stands, no_memory, failed}
 use Rattle.portfolio_run.proofs.RingsRun.{port, cause, calm}
 use Rattle.portfolio_run.proofs.RoundOver.{run}
@@ -223,7 +220,7 @@ module _ {S : Type 0} {d : Ghosts S} (written flushed target : S → Option (Lis
 
       -- None had
 
-      module _ (unbroken : fault ≡ false) (held : List Rest) (units : List Literal) (tells_rests : TellsRests s.core s.glue fault held units) where
+      module _ (unbroken : fault ≡ false) (plain : has_hints plan.format ≡ false) (held : List Rest) (units : List Literal) (tells_rests : TellsRests s.core s.glue fault held units) where
         told : AreRests s.core s.glue held × (units ≡ s.core.units)
         told = subst (λ (f : Bool). TellsRests s.core s.glue f held units) unbroken tells_rests
 
@@ -242,10 +239,20 @@ module _ {S : Type 0} {d : Ghosts S} (written flushed target : S → Option (Lis
         all_on : All (All (IsOn left.vars)) (F.clauses ++ added J)
         all_on = subst (λ (n : ℕ). All (All (IsOn n)) (F.clauses ++ added J)) h.vars_is (All-append (All (IsOn vars)) F.clauses (added J) (wider F.vars vars passed.more F.clauses on) passed.stood.on)
 
+        log_there : IsLogOf written flushed target faults b p.me.0.origin p.me.0.layout F.clauses J
+        log_there = subst (λ (G : List (List Literal)). IsLogOf written flushed target faults b p.me.0.origin p.me.0.layout G J) formula_is stands.log.sink
+
+        format_there : p.me.0.origin.format ≡ plan.format
+        format_there = ap (λ (o : BookOrigin). o.format) origin_is ∙ h.opened.format_is
+
+        -- and no hints
+        pub plain_there : has_hints old.format ≡ false
+        plain_there = ap has_hints ((log_there.whole unspent).format ∙ format_there) ∙ plain
+
         resumes_there : Resumes F.clauses left.vars (map cell_of held) units left.stack old J
         resumes_there =
             let last = last_is in
-            resumes F left t.layout J0 was.is_left p.me.0 s opening_is all_gathered.whole all_gathered.settled held units told.0 told.1 old stands.log.entries (omega (arith, last)) all_on passed.going
+            resumes F left t.layout J0 was.is_left p.me.0 s opening_is all_gathered.whole all_gathered.settled held units told.0 told.1 old stands.log.entries (omega (arith, last)) all_on passed.going plain_there
 
         pub left_after : AreLeftAfter F.clauses vars held units stack old J
         left_after =
@@ -262,12 +269,6 @@ module _ {S : Type 0} {d : Ghosts S} (written flushed target : S → Option (Lis
 
         -- the output has the lines since the first
 
-        log_there : IsLogOf written flushed target faults b p.me.0.origin p.me.0.layout F.clauses J
-        log_there = subst (λ (G : List (List Literal)). IsLogOf written flushed target faults b p.me.0.origin p.me.0.layout G J) formula_is stands.log.sink
-
-        format_there : p.me.0.origin.format ≡ plan.format
-        format_there = ap (λ (o : BookOrigin). o.format) origin_is ∙ h.opened.format_is
-
         tells_there : p.me.0.origin.tells ≡ is_some (written sink)
         tells_there = ap (λ (o : BookOrigin). o.tells) origin_is ∙ h.opened.tells_is
 
@@ -279,8 +280,8 @@ module _ {S : Type 0} {d : Ghosts S} (written flushed target : S → Option (Lis
               format = text.format ∙ format_there;
               bytes =
                   text.bytes
-                  ∙ (λ i. append_known (no_byte (tells_there i)) (proof_bytes (format_there i) (lines F.clauses J)))
-                  ∙ (λ i. append_known (sym (no_byte_there (written sink) empty) i) (proof_bytes plan.format (lines F.clauses J)));
+                  ∙ (λ i. append_known (no_byte (tells_there i)) (proof_bytes (format_there i) (numbered_lines F.clauses J)))
+                  ∙ (λ i. append_known (sym (no_byte_there (written sink) empty) i) (proof_bytes plan.format (numbered_lines F.clauses J)));
               kept = kept_all b.log.kept.lines plan.keep_lines (lines F.clauses J) asked (book_records.kept unspent);
             }
 

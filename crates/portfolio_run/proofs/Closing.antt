@@ -11,6 +11,7 @@ use Rattle.std.proofs.lemmas.List.{get_or-map, length-map}
 use Rattle.std.proofs.lemmas.List.Folds.{list_any-append}
 use Rattle.std.proofs.lemmas.List.Sums.{fold-append}
 use Rattle.std.proofs.lemmas.Map.Keys.{below_from_sorted}
+use Rattle.sat_words.specs.Formats.{has_hints}
 use Rattle.sat_words.specs.Literal.{Literal, IsOn, same}
 use Rattle.sat_words.specs.Clause.{has, same_set, is_empty, distinct_lits, has_opposites, two_or_more, clause_of}
 use Rattle.sat_words.specs.FormulaData.{FormulaData}
@@ -263,9 +264,10 @@ module _ (F : FormulaData) (left : Simplified) (l : Layout) (J0 : List Entry) (h
 
   -- Going on
 
-  pub resumes : (out : LineState) → out.entries ≡ length J → (book F.clauses J).next ≡ out.last + 1 → All (All (IsOn left.vars)) (F.clauses ++ added J) → IsUnrefuted J → Resumes F.clauses left.vars (map cell_of rests) units left.stack out J
-  resumes out entries last on going = record {
+  pub resumes : (out : LineState) → out.entries ≡ length J → (book F.clauses J).next ≡ out.last + 1 → All (All (IsOn left.vars)) (F.clauses ++ added J) → IsUnrefuted J → has_hints out.format ≡ false → Resumes F.clauses left.vars (map cell_of rests) units left.stack out J
+  resumes out entries last on going plain = record {
     sound = log;
+    hinted = λ q. absurd (true≢false (sym q ∙ plain));
     going = list_any-append is_empty F.clauses (added J) ∙ (λ i. h.whole i || going i);
     numbers = own_numbers (map cell_of rests) (subst (IsStrictlySortedBy nat_cmp) (sym (numbers_same rests)) told.ascending);
     held = held;
@@ -273,6 +275,7 @@ module _ (F : FormulaData) (left : Simplified) (l : Layout) (J0 : List Entry) (h
     told = In_All (λ k. is_told F.clauses J k ≡ true) units (λ k i. subst (λ (G : List (List Literal)). is_told G J k ≡ true) formula_is (core.units.told k (In_has s.core.units k (subst (λ (ls : List Literal). In k ls) units_are i))));
     every = every;
     distinct = ap distinct_lits units_are ∙ core.units.distinct;
+    units_held = λ q. absurd (true≢false (sym q ∙ plain));
     on = on;
     stack_on = h.on.stack;
     entries = entries;

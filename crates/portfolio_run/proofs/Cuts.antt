@@ -1,18 +1,20 @@
 -- A writer that has a front of the bytes of lines.
-use Rattle.std.proofs.Common.{◌≡◌, ◌∙◌, ℕ, zero, suc, true, false, List, [], ◌∷◌, ◌++◌, Some, None, refl, sym, ap, subst, arith, append_assoc, append-nil}
+use Rattle.std.proofs.Common.{◌≡◌, ◌∙◌, ℕ, zero, suc, true, false, List, [], ◌∷◌, ◌++◌, map, Some, None, refl, sym, ap, subst, arith, append_assoc, append-nil}
 use Rattle.std.specs.Prelude.{All}
 use Rattle.std.specs.declared.option.Option.{Option}
 use Rattle.std.specs.Io.KnownBytes.{append_known}
+use Rattle.std.proofs.lemmas.List.{map-append}
 use Rattle.std.proofs.lemmas.List.Elements.{All-append}
 use Rattle.io_edge.specs.Bytes.{IsFront}
 use Rattle.io_edge.proofs.Growth.{append_known-append}
 use Rattle.sat_words.specs.Literal.{Literal}
 use Rattle.sat_words.specs.declared.line.Line.{Line}
-use Rattle.sat_words.specs.declared.line.Line.TheVariants.{Add as AddLine}
 use Rattle.rup_model.specs.Log.{Accepted, alive, is_valid}
 use Rattle.rup_model.specs.Rup.{rup}
 use Rattle.rup_model.specs.Journal.{lines}
+use Rattle.rup_model.specs.NumberedLines.{NumberedLine, Added, line_of, numbered_lines}
 use Rattle.rup_model.specs.declared.journal.Entry.{Entry}
+use Rattle.rup_model.proofs.Lines.{numbered_lines_lines}
 use Rattle.rup_model.proofs.Sequences.{each_last, each_front}
 use Rattle.sat_words.specs.declared.line.ProofFormat.{ProofFormat}
 use Rattle.drat_text.specs.Text.{CanBeSpelled, IsSpelled}
@@ -28,35 +30,36 @@ front_All P [] ys all k d lt = absurd (omega arith)
 front_All P (x ∷ xs) ys all zero d lt = all zero d (omega arith)
 front_All P (x ∷ xs) ys all (suc k) d lt = front_All P xs ys (λ j e less. all (suc j) e (omega arith)) k d (omega arith)
 
-none_is_some : (first others : List Line) (line : Line) → [] ≡ first ++ line ∷ others → ⊥
+none_is_some : (first others : List NumberedLine) (line : NumberedLine) → [] ≡ first ++ line ∷ others → ⊥
 none_is_some [] others line e = cc
 none_is_some (y ∷ first) others line e = cc
 
 -- the lines before one of them are first lines of those without the last
-within : (first others L : List Line) (line x : Line) → L ++ x ∷ [] ≡ first ++ line ∷ others → (rest : List Line) × (L ≡ first ++ rest)
+within : (first others L : List NumberedLine) (line x : NumberedLine) → L ++ x ∷ [] ≡ first ++ line ∷ others → (rest : List NumberedLine) × (L ≡ first ++ rest)
 within [] others L line x e = (L, refl)
 within (y ∷ first) others [] line x e = absurd (none_is_some first others line (let tail : [] ≡ first ++ line ∷ others = cc in tail))
 within (y ∷ first) others (z ∷ L) line x e =
     let same : z ≡ y = cc in
     let tail : L ++ x ∷ [] ≡ first ++ line ∷ others = cc in
     let t = within first others L line x tail in
-    (t.0, ap (λ (w : Line). w ∷ L) same ∙ ap (λ (ws : List Line). y ∷ ws) t.1)
+    (t.0, ap (λ (w : NumberedLine). w ∷ L) same ∙ ap (λ (ws : List NumberedLine). y ∷ ws) t.1)
 
-module _ (f : ProofFormat) (F : List (List Literal)) (J : List Entry) (L more : List Line) (x : Line) (front_of : lines F J ≡ L ++ more)
-    (accepted : Accepted F (L ++ x ∷ [])) (spelled : CanBeSpelled (L ++ x ∷ [])) where
+module _ (f : ProofFormat) (F : List (List Literal)) (J : List Entry) (L more : List NumberedLine) (x : NumberedLine) (front_of : numbered_lines F J ≡ L ++ more)
+    (accepted : Accepted F (map line_of (L ++ x ∷ []))) (spelled : CanBeSpelled (map line_of (L ++ x ∷ []))) where
   -- a front of the bytes of these lines
   cut_at : (bytes : List ℕ) → IsCutText f (L ++ x ∷ []) bytes → IsCutShort f F J (Some bytes)
   cut_at bytes t =
       let w = within t.first t.others L t.line x t.split in
-      let whole : L ++ x ∷ [] ≡ (t.first ++ t.line ∷ []) ++ t.others = t.split ∙ sym (append_assoc t.first (t.line ∷ []) t.others) in
+      let whole : map line_of (L ++ x ∷ []) ≡ map line_of (t.first ++ t.line ∷ []) ++ map line_of t.others =
+      ap (map line_of) (t.split ∙ sym (append_assoc t.first (t.line ∷ []) t.others)) ∙ map-append line_of (t.first ++ t.line ∷ []) t.others in
       record {
         front = t.first;
         rest = w.0 ++ more;
-        front_of = front_of ∙ ap (λ (ls : List Line). ls ++ more) w.1 ∙ append_assoc t.first w.0 more;
+        front_of = front_of ∙ ap (λ (ls : List NumberedLine). ls ++ more) w.1 ∙ append_assoc t.first w.0 more;
         line = t.line;
         cut = t.cut;
-        accepted = each_front (λ before y. is_valid (alive F before) y ≡ true) [] (t.first ++ t.line ∷ []) t.others (subst (Accepted F) whole accepted);
-        spelled = front_All IsSpelled (t.first ++ t.line ∷ []) t.others (subst CanBeSpelled whole spelled);
+        accepted = each_front (λ before y. is_valid (alive F before) y ≡ true) [] (map line_of (t.first ++ t.line ∷ [])) (map line_of t.others) (subst (Accepted F) whole accepted);
+        spelled = front_All IsSpelled (map line_of (t.first ++ t.line ∷ [])) (map line_of t.others) (subst CanBeSpelled whole spelled);
         bytes = t.ends;
       }
 
@@ -85,26 +88,30 @@ front_of_same None = record { rest = []; whole = refl }
 front_of_same (Some bytes) = record { rest = []; whole = ap Some (sym (append-nil bytes)) }
 
 -- a line that is valid anywhere
-abbrev any_line : Line
-any_line = AddLine (record { var = 1; neg = false } ∷ record { var = 1; neg = true } ∷ [])
+abbrev any_line : NumberedLine
+any_line = Added 1 (record { var = 1; neg = false } ∷ record { var = 1; neg = true } ∷ []) []
 
-any_line_is_valid : (G : List (List Literal)) → is_valid G any_line ≡ true
+any_line_is_valid : (G : List (List Literal)) → is_valid G (line_of any_line) ≡ true
 unfolding rup
 any_line_is_valid G = refl
 
-any_line_is_spelled : CanBeSpelled (any_line ∷ [])
+any_line_is_spelled : CanBeSpelled (line_of any_line ∷ [])
 any_line_is_spelled zero x lt zero l less = record { low = omega arith; high = omega arith }
 any_line_is_spelled zero x lt (suc zero) l less = record { low = omega arith; high = omega arith }
 any_line_is_spelled zero x lt (suc (suc j)) l less = absurd (omega arith)
 any_line_is_spelled (suc k) x lt j l less = absurd (omega arith)
 
+-- the journal's lines and one line more
+pub lines_with : (F : List (List Literal)) (J : List Entry) (x : NumberedLine) → lines F J ++ line_of x ∷ [] ≡ map line_of (numbered_lines F J ++ x ∷ [])
+lines_with F J x = ap (λ (L : List Line). L ++ line_of x ∷ []) (sym (numbered_lines_lines F J)) ∙ sym (map-append line_of (numbered_lines F J) (x ∷ []))
+
 -- a writer that has a front of the journal's bytes
-pub cut_whole : (f : ProofFormat) (F : List (List Literal)) (J : List Entry) (all written : Option (List ℕ)) → Accepted F (lines F J) → CanBeSpelled (lines F J) → HoldsText all (proof_bytes f (lines F J)) → IsFront written all → IsCutShort f F J written
+pub cut_whole : (f : ProofFormat) (F : List (List Literal)) (J : List Entry) (all written : Option (List ℕ)) → Accepted F (lines F J) → CanBeSpelled (lines F J) → HoldsText all (proof_bytes f (numbered_lines F J)) → IsFront written all → IsCutShort f F J written
 cut_whole f F J all written accepted spelled holds g =
-    let L : List Line = lines F J in
+    let L : List NumberedLine = numbered_lines F J in
     cut_short f F J L [] any_line (sym (append-nil L))
-    (each_last (λ before y. is_valid (alive F before) y ≡ true) [] L any_line accepted (any_line_is_valid (alive F L)))
-    (All-append IsSpelled L (any_line ∷ []) spelled any_line_is_spelled)
+    (subst (Accepted F) (lines_with F J any_line) (each_last (λ before y. is_valid (alive F before) y ≡ true) [] (lines F J) (line_of any_line) accepted (any_line_is_valid (alive F (lines F J)))))
+    (subst CanBeSpelled (lines_with F J any_line) (All-append IsSpelled (lines F J) (line_of any_line ∷ []) spelled any_line_is_spelled))
     (append_known all (spelling f any_line)) written
     (subst (HoldsText (append_known all (spelling f any_line))) (sym (bytes_last f L any_line)) (longer all (proof_bytes f L) (spelling f any_line) holds))
     (front_of_more written all (spelling f any_line) g)

@@ -7,9 +7,10 @@ use Rattle.std.proofs.lemmas.List.{map-append}
 use Rattle.std.proofs.lemmas.List.Elements.{filter-append}
 use Rattle.sat_words.specs.Literal.{Literal, IsOn}
 use Rattle.sat_words.specs.Clause.{same_set, is_empty, clause_of, two_or_more}
-use Rattle.sat_words.specs.declared.line.Line.{Line}
+use Rattle.sat_words.specs.Formats.{has_hints}
 use Rattle.rup_model.specs.declared.journal.Entry.{Entry}
 use Rattle.rup_model.specs.Journal.{added, LogSound}
+use Rattle.rup_model.specs.NumberedLines.{NumberedLine}
 use Rattle.rup_model.proofs.Additions.{added-append}
 use Rattle.rup_model.proofs.Lists.{In, In_append_left, In_append_right, In_map, map_In, Contains_In, In_Contains}
 use Rattle.model_stack.specs.declared.stack.Fix.{Fix}
@@ -34,17 +35,21 @@ use Rattle.portfolio_run.specs.Resumed.{is_dropped, cell_of, dropped_of, kept_of
 
 -- Lines
 
-pub took_more : (xs : List Line) (old middle new : LineState) (x : Line) → TookLines old xs middle → PutLine middle new x 0 → TookLines old (xs ++ x ∷ []) new
-took_more [] old middle new x is put = (new, subst (λ s. PutLine s new x 0) is put, refl)
-took_more (y ∷ ys) old middle new x h put = (h.0, h.1, took_more ys h.0 middle new x h.2 put)
+pub took_more : (rs : List Rest) (old middle new : LineState) (r : Rest) → TookLines old rs middle → PutLine middle new (deletion_of middle r) → TookLines old (rs ++ r ∷ []) new
+took_more [] old middle new r is put = (new, subst (λ s. PutLine s new (deletion_of s r)) is put, refl)
+took_more (d ∷ ds) old middle new r h put = (h.0, h.1, took_more ds h.0 middle new r h.2 put)
 
-pub took_spent : (xs : List Line) (old new : LineState) → TookLines old xs new → new.spent ≡ old.spent
+pub took_spent : (rs : List Rest) (old new : LineState) → TookLines old rs new → new.spent ≡ old.spent
 took_spent [] old new is = ap (λ (s : LineState). s.spent) is
-took_spent (x ∷ xs) old new h = took_spent xs h.0 new h.2 ∙ ap (λ (s : LineState). s.spent) h.1.state
+took_spent (r ∷ rs) old new h = took_spent rs h.0 new h.2 ∙ ap (λ (s : LineState). s.spent) h.1.state
 
-pub took_faults : (xs : List Line) (old new : LineState) → TookLines old xs new → new.faults ≡ old.faults
+pub took_format : (rs : List Rest) (old new : LineState) → TookLines old rs new → new.format ≡ old.format
+took_format [] old new is = ap (λ (s : LineState). s.format) is
+took_format (r ∷ rs) old new h = took_format rs h.0 new h.2 ∙ ap (λ (s : LineState). s.format) h.1.state
+
+pub took_faults : (rs : List Rest) (old new : LineState) → TookLines old rs new → new.faults ≡ old.faults
 took_faults [] old new is = ap (λ (s : LineState). s.faults) is
-took_faults (x ∷ xs) old new h = took_faults xs h.0 new h.2 ∙ ap (λ (s : LineState). s.faults) h.1.state
+took_faults (r ∷ rs) old new h = took_faults rs h.0 new h.2 ∙ ap (λ (s : LineState). s.faults) h.1.state
 
 -- One more
 
@@ -212,7 +217,7 @@ module _ (F : List (List Literal)) (vars : ℕ) (us : List Literal) (stack : Lis
   at cs out = resumed vars cs us stack out
 
   stand : (ds : List Rest) (cs : List (ℕ × List Literal)) (middle new : LineState) (mine : List Entry) → Stands o mine (at cs middle) → middle.spent ≡ false → Apart ds → ((d : Rest) → In d ds → Contains cs (cell_of d))
-      → ((d : Rest) → In d ds → two_or_more d.clause ≡ true) → TookLines middle (map deletion_of ds) new → Stands o (mine ++ deletions (map (λ r. r.number) ds)) (at (without_all ds cs) new)
+      → ((d : Rest) → In d ds → two_or_more d.clause ≡ true) → TookLines middle ds new → Stands o (mine ++ deletions (map (λ r. r.number) ds)) (at (without_all ds cs) new)
   stand [] cs middle new mine s unspent apart held long took = nothing_more o mine (at cs new) (subst (λ out. Stands o mine (at cs out)) (sym took) s)
   stand (d ∷ ds) cs middle new mine s unspent apart held long took =
       subst (λ es. Stands o es (at (without_all ds (without d.number cs)) new)) (append_assoc mine (ruler_deletes d.number ∷ []) (deletions (map (λ r. r.number) ds)))
@@ -239,7 +244,7 @@ module _ (F : List (List Literal)) (vars : ℕ) (us : List Literal) (stack : Lis
 
     -- All of them
 
-    module _ (new : LineState) (took : TookLines old (map deletion_of (filter is_dropped rs)) new) where
+    module _ (new : LineState) (took : TookLines old (filter is_dropped rs) new) where
       abbrev rest : List (ℕ × List Literal)
       rest = without_all (filter is_dropped rs) (map cell_of rs)
 
@@ -252,11 +257,12 @@ module _ (F : List (List Literal)) (vars : ℕ) (us : List Literal) (stack : Lis
       own_kept : HaveOwnNumbers (kept_of rs)
       own_kept = own_apart (filter (λ r. not (is_dropped r)) rs) (apart_filter (λ r. not (is_dropped r)) rs apart)
 
-      pub resumes_after : Resumes F vars (kept_of rs) us stack new (J ++ deletions (dropped_of rs))
-      resumes_after =
+      pub resumes_after : has_hints old.format ≡ false → Resumes F vars (kept_of rs) us stack new (J ++ deletions (dropped_of rs))
+      resumes_after plain =
           let s = stands_after in
           let same = added_same J (dropped_of rs) in record {
             sound = s.sound;
+            hinted = s.hinted;
             going = subst (λ (G : List (List Literal)). list_any is_empty (F ++ G) ≡ false) (sym same) left.0.going;
             numbers = own_kept;
             held = λ n c i. s.held n c (kept_without rs apart n c i);
@@ -267,6 +273,7 @@ module _ (F : List (List Literal)) (vars : ℕ) (us : List Literal) (stack : Lis
             told = s.told;
             every = λ l t. left.0.every l (subst (λ (G : List (List Literal)). list_any (same_set (l ∷ [])) (F ++ G) ≡ true) same t);
             distinct = left.0.distinct;
+            units_held = λ h. absurd (true≢false (sym h ∙ ap has_hints (took_format (filter is_dropped rs) old new took) ∙ plain));
             on = subst (λ (G : List (List Literal)). All (All (IsOn vars)) (F ++ G)) (sym same) left.0.on;
             stack_on = left.0.stack_on;
             entries = s.lines.entries;
@@ -275,7 +282,7 @@ module _ (F : List (List Literal)) (vars : ℕ) (us : List Literal) (stack : Lis
 
     -- A front of them
 
-    module _ (ds es : List Rest) (front_of : filter is_dropped rs ≡ ds ++ es) (middle : LineState) (took : TookLines old (map deletion_of ds) middle) where
+    module _ (ds es : List Rest) (front_of : filter is_dropped rs ≡ ds ++ es) (middle : LineState) (took : TookLines old ds middle) where
       among : (d : Rest) → In d (ds ++ es) → In d rs
       among d i = (filter_In is_dropped rs d (subst (In d) (sym front_of) i)).0
 
@@ -292,7 +299,7 @@ module _ (F : List (List Literal)) (vars : ℕ) (us : List Literal) (stack : Lis
       sound_front = stands_front.sound
 
       middle_unspent : middle.spent ≡ false
-      middle_unspent = took_spent (map deletion_of ds) old middle took ∙ unspent
+      middle_unspent = took_spent ds old middle took ∙ unspent
 
       -- the line of the next was not put
       module _ (r : Rest) (others : List Rest) (rest_is : es ≡ r ∷ others) where
@@ -311,9 +318,9 @@ module _ (F : List (List Literal)) (vars : ℕ) (us : List Literal) (stack : Lis
         abbrev mine : List Entry
         mine = deletions (map (λ r. r.number) ds)
 
-        pub lines_not_put : (new : LineState) (stop : LineStop) → WasPut middle new (deletion_of r) (Err stop) → HasLines o mine vars new
+        pub lines_not_put : (new : LineState) (stop : LineStop) → WasPut {T = Unit {0}} middle new (deletion_of middle r) (Err stop) → HasLines o mine vars new
         lines_not_put new ProofFault failed =
-            (stands_failed o mine w stands_front (ruler_deletes r.number) (deletion_of r)
+            (stands_failed o mine w stands_front (ruler_deletes r.number) (deletion_of middle r)
             (one_del o mine w stands_front r.number r.clause still (long_all r r_in) refl)
             (valid_del o mine w stands_front r.number r.clause still (long_all r r_in) refl)
             (fit_del o mine w stands_front r.number r.clause still (long_all r r_in) refl)
@@ -323,17 +330,17 @@ module _ (F : List (List Literal)) (vars : ℕ) (us : List Literal) (stack : Lis
 
 -- Why it stopped
 
-pub stopped_for : (old middle new : LineState) (x : Line) (stop : LineStop) → middle.faults ≡ old.faults → WasPut middle new x (Err stop) → HasOutputCause old new stop
+pub stopped_for : (old middle new : LineState) (x : NumberedLine) (stop : LineStop) → middle.faults ≡ old.faults → WasPut {T = Unit {0}} middle new x (Err stop) → HasOutputCause old new stop
 stopped_for old middle new x ProofFault same failed = subst (λ (n : ℕ). Rose n new.faults) same failed.rose
 stopped_for old middle new x Full same full = (ap (λ (s : LineState). s.entries) full.state ∙ full.full, ap (λ (s : LineState). s.faults) full.state ∙ same)
 stopped_for old middle new x Memory same is = ap (λ (s : LineState). s.faults) is ∙ same
 
 pub front_cause : (rs : List Rest) (old new : LineState) (stop : LineStop) → TookFront rs old new stop → HasOutputCause old new stop
 front_cause rs old new stop t =
-    let same = took_faults (map deletion_of t.front) old t.middle t.took in
+    let same = took_faults t.front old t.middle t.took in
     elim t.cause as (λ _. HasOutputCause old new stop) [
       | inl m ↦ subst (HasOutputCause old new) (sym m.0) (ap (λ (s : LineState). s.faults) m.1 ∙ same)
-      | inr n ↦ stopped_for old t.middle new (deletion_of n.0) stop same n.3
+      | inr n ↦ stopped_for old t.middle new (deletion_of t.middle n.0) stop same n.3
     ]
 
 pub front_sound : (F : List (List Literal)) (vars : ℕ) (us : List Literal) (stack : List Fix) (old : LineState) (J : List Entry) (rs : List Rest) → AreLeftAfter F vars rs us stack old J → old.spent ≡ false

@@ -11,12 +11,13 @@ use Rattle.io_edge.specs.Causes.{Rose, HasCause}
 use Rattle.sat_words.specs.Literal.{Literal}
 use Rattle.sat_words.specs.FormulaData.{FormulaData}
 use Rattle.sat_words.specs.declared.line.Line.{Line}
-use Rattle.rup_model.specs.Log.{lits_of}
+use Rattle.rup_model.specs.Log.{lits_of, Accepted}
 use Rattle.rup_model.specs.Journal.{lines}
+use Rattle.rup_model.specs.NumberedLines.{line_of, numbered_lines}
 use Rattle.rup_model.specs.declared.journal.Entry.{Entry}
 use Rattle.drat_text.specs.LineState.{LineState}
 use Rattle.sat_words.specs.declared.line.ProofFormat.{ProofFormat}
-use Rattle.drat_text.specs.Text.{IsSpelled}
+use Rattle.drat_text.specs.Text.{IsSpelled, CanBeSpelled}
 use Rattle.drat_text.specs.Spelling.{spelling, proof_bytes}
 use Rattle.drat_text.specs.SinkData.{told_by}
 use Rattle.drat_text.proofs.JournalLines.{bytes_last}
@@ -31,7 +32,7 @@ use Rattle.portfolio_run.specs.declared.plan.Plan.{Plan}
 use Rattle.portfolio_run.specs.Journaled.{IsCutShort}
 use Rattle.portfolio_run.specs.Reached.{HasReached}
 use Rattle.portfolio_run.specs.Solved.{is_verdict, unfinished, IsSure, IsFinished, IsSolved}
-use Rattle.portfolio_run.proofs.Cuts.{cut_short, cut_whole, front_of_front, front_of_same, front_told}
+use Rattle.portfolio_run.proofs.Cuts.{cut_short, cut_whole, lines_with, front_of_front, front_of_same, front_told}
 use Rattle.portfolio_run.proofs.Spelling.{cons_All, spell_all}
 
 -- if there was no byte, the text is all there is
@@ -76,26 +77,26 @@ module _ {S : Type 0} {d : Ghosts S} (written flushed target : S → Option (Lis
 
   -- the bytes of the journal's lines
   abbrev all_bytes : List ℕ
-  all_bytes = proof_bytes plan.format (lines F J)
+  all_bytes = proof_bytes plan.format (numbered_lines F J)
 
   whole : b.log.lines.spent ≡ false → HoldsText out.written all_bytes
   whole q =
       let o = h.records.origin in
-      let told : HoldsText out.written (proof_bytes o.format (lines F J)) =
-      subst (λ (w : Option (List ℕ)). HoldsText w (proof_bytes o.format (lines F J))) (sym (h.records.log.whole q).bytes) (holds_since o.tells (proof_bytes o.format (lines F J))) in
-      subst (λ (f : ProofFormat). HoldsText out.written (proof_bytes f (lines F J))) h.records.format_is told
+      let told : HoldsText out.written (proof_bytes o.format (numbered_lines F J)) =
+      subst (λ (w : Option (List ℕ)). HoldsText w (proof_bytes o.format (numbered_lines F J))) (sym (h.records.log.whole q).bytes) (holds_since o.tells (proof_bytes o.format (numbered_lines F J))) in
+      subst (λ (f : ProofFormat). HoldsText out.written (proof_bytes f (numbered_lines F J))) h.records.format_is told
 
   short_cut : (now : Option (List ℕ)) → IsFront now out.written → b.log.lines.spent ≡ true → IsCutShort plan.format F J now
   short_cut now front q =
       let c = h.records.log.cut q in
       let o = h.records.origin in
-      let more : List ℕ = proof_bytes o.format (lines F J) ++ spelling o.format c.line in
+      let more : List ℕ = proof_bytes o.format (numbered_lines F J) ++ spelling o.format c.line in
       let all = append_known (no_byte o.tells) more in
       subst (λ (f : ProofFormat). IsCutShort f F J now) h.records.format_is
-      (cut_short o.format F J (lines F J) [] c.line (sym (append-nil (lines F J))) c.accepted
-      (All-append IsSpelled (lines F J) (c.line ∷ []) h.reached.stands.spelled
-      (cons_All IsSpelled c.line [] (spell_all h.records.layout.vars h.records.few (lits_of c.line) c.on) (λ k d lt. absurd (omega arith))))
-      all now (subst (HoldsText all) (sym (bytes_last o.format (lines F J) c.line)) (holds_since o.tells more))
+      (cut_short o.format F J (numbered_lines F J) [] c.line (sym (append-nil (numbered_lines F J))) (subst (Accepted F) (lines_with F J c.line) c.accepted)
+      (subst CanBeSpelled (lines_with F J c.line) (All-append IsSpelled (lines F J) (line_of c.line ∷ []) h.reached.stands.spelled
+      (cons_All IsSpelled (line_of c.line) [] (spell_all h.records.layout.vars h.records.few (lits_of (line_of c.line)) c.on) (λ k d lt. absurd (omega arith)))))
+      all now (subst (HoldsText all) (sym (bytes_last o.format (numbered_lines F J) c.line)) (holds_since o.tells more))
       (front_of_front now out.written all front c.front))
 
   short : (now : Option (List ℕ)) → IsFront now out.written → IsCutShort plan.format F J now

@@ -11,8 +11,7 @@ use Rattle.rup_model.specs.declared.journal.Round.{Round as RoundStart}
 use Rattle.rup_model.specs.declared.journal.Entry.{Entry}
 use Rattle.rup_model.specs.declared.journal.Entry.TheVariants.{Round}
 use Rattle.rup_model.specs.Journal.{Book, book, LogSound}
-use Rattle.rup_model.specs.Opening.{Start, IsStart, OpensAfter}
-use Rattle.rup_model.specs.Spent.{ruler_part}
+use Rattle.rup_model.specs.Opening.{Start, IsStart, OpensAfter, ruler_part}
 use Rattle.rup_model.specs.Windows.{start_of as start_in}
 use Rattle.rup_model.proofs.Additions.{told_more}
 use Rattle.rup_model.proofs.JournalSteps.{log_rounds}

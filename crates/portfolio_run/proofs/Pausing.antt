@@ -9,7 +9,6 @@ use Rattle.rup_model.specs.declared.journal.Round.{Round as RoundStart}
 use Rattle.rup_model.specs.declared.journal.Entry.{Entry}
 use Rattle.rup_model.specs.declared.journal.Entry.TheVariants.{Round}
 use Rattle.rup_model.specs.Journal.{added, LogSound}
-use Rattle.rup_model.specs.Spent.{ruler_part}
 use Rattle.model_stack.specs.declared.stack.Fix.{Fix}
 use Rattle.simp_base.specs.WorkState.{begun as begun_work}
 use Rattle.simp_base.specs.declared.work.Run.TheVariants.{Done}
@@ -28,6 +27,7 @@ use Rattle.portfolio_run.proofs.Passed.{HavePassed}
 use Rattle.portfolio_run.proofs.Resting.{IsResting}
 use Rattle.portfolio_run.proofs.Rulers.{AreRulers, front_stays}
 use Rattle.portfolio_run.proofs.Spelling.{wider}
+use Rattle.rup_model.specs.Opening.{ruler_part}
 
 -- Deletions
 

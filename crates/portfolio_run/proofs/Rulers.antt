@@ -11,8 +11,7 @@ use Rattle.rup_model.specs.declared.journal.Entry.{Entry}
 use Rattle.rup_model.specs.declared.journal.Round.{Round as RoundStart}
 use Rattle.rup_model.specs.declared.journal.Entry.TheVariants.{Add, Del, Reduce, Round}
 use Rattle.rup_model.specs.Journal.{ring_of, reduction, round_of, additions, learned, is_learn}
-use Rattle.rup_model.specs.Opening.{is_ruler, is_rulers}
-use Rattle.rup_model.specs.Spent.{ruler_part, rings_part}
+use Rattle.rup_model.specs.Opening.{is_ruler, is_rulers, ruler_part, rings_part}
 use Rattle.rup_model.proofs.Parts.{ruler_part-append, rings_part-append, rulers_kind}
 use Rattle.portfolio_run.specs.Journaled.{IsPlainEntry}
 

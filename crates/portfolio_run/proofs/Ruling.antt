@@ -14,6 +14,7 @@ use Rattle.sat_words.specs.declared.line.ProofFormat.{ProofFormat}
 use Rattle.sat_words.specs.declared.shared.TheConstants.{MAX_ENTRIES}
 use Rattle.rup_model.specs.declared.journal.Entry.{Entry}
 use Rattle.rup_model.specs.Journal.{formula_book, lines}
+use Rattle.rup_model.specs.NumberedLines.{numbered_lines}
 use Rattle.drat_text.specs.LineState.{LineState}
 use Rattle.drat_text.specs.Text.{CanBeSpelled}
 use Rattle.drat_text.specs.Spelling.{proof_bytes}
@@ -288,7 +289,7 @@ starved plan formula tally before faults flushed written few on rings none empty
     let old : LineState = record { format = plan.format; entries = 0; last = length formula.clauses; spent = false; faults = before; written = written; target = None; flushed = None; kept = None } in
     let was : Ruled formula (schedule_of plan) old old (Err line_stop.Memory) = none_made formula (schedule_of plan) old refl refl refl on old refl in
     let h : IsReached plan formula Memory tally before before was.journal = stopped plan formula old old (Err line_stop.Memory) tally few on rings none refl refl refl was line_stop.Memory refl in
-    let bytes : List ℕ = proof_bytes plan.format (lines formula.clauses was.journal) in
+    let bytes : List ℕ = proof_bytes plan.format (numbered_lines formula.clauses was.journal) in
     let holds : HoldsText written bytes = told_text written bytes empty ((has_lines plan formula old old (Err line_stop.Memory) tally few on rings none refl refl refl was).whole refl).bytes in
     record {
       journal = was.journal;

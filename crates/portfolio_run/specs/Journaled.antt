@@ -4,7 +4,6 @@ use Rattle.std.specs.List.{list_any}
 use Rattle.std.specs.declared.option.Option.{Option}
 use Rattle.sat_words.specs.Literal.{Literal}
 use Rattle.sat_words.specs.Clause.{has, is_empty}
-use Rattle.sat_words.specs.declared.line.Line.{Line}
 use Rattle.sat_words.specs.declared.line.ProofFormat.{ProofFormat}
 use Rattle.rup_model.specs.declared.journal.Round.{Round as RoundStart}
 use Rattle.rup_model.specs.declared.journal.Entry.{Entry}
@@ -12,6 +11,7 @@ use Rattle.rup_model.specs.declared.journal.Entry.TheVariants.{Add, Del, Reduce,
 use Rattle.rup_model.specs.Basics.{EachAfter}
 use Rattle.rup_model.specs.Log.{Accepted}
 use Rattle.rup_model.specs.Journal.{added, lines, round_of, Fits, EmptyLast}
+use Rattle.rup_model.specs.NumberedLines.{NumberedLine, line_of, numbered_lines}
 use Rattle.rup_model.specs.Opening.{is_rulers, program_opening}
 use Rattle.rup_model.specs.Windows.{begins_round, IsNewInRound, IsSpacedInRound}
 use Rattle.core_rounds.specs.InRounds.{IsOfRounds}
@@ -63,11 +63,11 @@ IsUnrefuted journal = list_any is_empty (added journal) ≡ false
 
 -- the bytes of some lines of the journal in this format, and a front of one line's more; all of the lines are accepted
 pub record IsCutShort (format : ProofFormat) (clauses : List (List Literal)) (journal : List Entry) (written : Option (List ℕ)) : Type 0 where
-  pub front : List Line
-  pub rest : List Line
-  pub front_of : lines clauses journal ≡ front ++ rest
-  pub line : Line
+  pub front : List NumberedLine
+  pub rest : List NumberedLine
+  pub front_of : numbered_lines clauses journal ≡ front ++ rest
+  pub line : NumberedLine
   pub cut : ℕ
-  pub accepted : Accepted clauses (front ++ line ∷ [])
-  pub spelled : CanBeSpelled (front ++ line ∷ [])
+  pub accepted : Accepted clauses (map line_of (front ++ line ∷ []))
+  pub spelled : CanBeSpelled (map line_of (front ++ line ∷ []))
   pub bytes : HoldsText written (proof_bytes format front ++ take cut (spelling format line))

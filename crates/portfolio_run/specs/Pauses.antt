@@ -7,8 +7,7 @@ use Rattle.sat_words.specs.FormulaData.{FormulaData}
 use Rattle.rup_model.specs.declared.journal.Entry.{Entry}
 use Rattle.rup_model.specs.Basics.{EachAfter}
 use Rattle.rup_model.specs.Journal.{added, LogSound}
-use Rattle.rup_model.specs.Opening.{OpensAfter, is_rulers, program_opening}
-use Rattle.rup_model.specs.Spent.{ruler_part}
+use Rattle.rup_model.specs.Opening.{OpensAfter, is_rulers, program_opening, ruler_part}
 use Rattle.rup_model.specs.Windows.{IsNewInRound, IsSpacedInRound}
 use Rattle.model_stack.specs.Extend.{Lifts}
 use Rattle.drat_text.specs.LineState.{LineState}

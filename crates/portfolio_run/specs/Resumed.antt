@@ -2,13 +2,12 @@
 use Rattle.std.specs.Prelude.{◌≡◌, ◌⊎◌, ℕ, Bool, true, false, not, List, [], ◌∷◌, ◌++◌, map, filter, All, Result, Err, nat_lt}
 use Rattle.sat_words.specs.Literal.{Literal}
 use Rattle.sat_words.specs.Clause.{two_or_more}
-use Rattle.sat_words.specs.declared.line.Line.{Line}
-use Rattle.sat_words.specs.declared.line.Line.TheVariants.{Del as DelLine}
 use Rattle.rup_model.specs.declared.journal.Entry.{Entry}
 use Rattle.rup_model.specs.Journal.{LogSound}
+use Rattle.rup_model.specs.NumberedLines.{NumberedLine}
 use Rattle.model_stack.specs.declared.stack.Fix.{Fix}
 use Rattle.drat_text.specs.LineState.{LineState}
-use Rattle.drat_text.specs.LineOut.{PutLine, WasPut}
+use Rattle.drat_text.specs.LineOut.{PutLine, WasPut, deleted_line}
 use Rattle.drat_text.specs.declared.stop.LineStop.{LineStop}
 use Rattle.drat_text.specs.declared.stop.LineStop.TheVariants.{Memory}
 use Rattle.share_rule.specs.declared.rests.Rest.{Rest}
@@ -38,14 +37,14 @@ dropped_of rs = map (λ r. r.number) (filter is_dropped rs)
 abbrev pub kept_of : List Rest → List (ℕ × List Literal)
 kept_of rs = map cell_of (filter (λ r. not (is_dropped r)) rs)
 
--- the line that deletes the clause
-abbrev pub deletion_of : Rest → Line
-deletion_of r = DelLine r.clause
+-- the line that deletes the clause, after those of the output
+abbrev pub deletion_of : LineState → Rest → NumberedLine
+deletion_of out r = deleted_line out r.number r.clause
 
--- the output took these lines of deletions, one after another
-abbrev pub TookLines : (old : LineState) → List Line → (new : LineState) → Type 0
+-- the output took the lines that delete these, one after another
+abbrev pub TookLines : (old : LineState) → List Rest → (new : LineState) → Type 0
 TookLines old [] new = new ≡ old
-TookLines old (x ∷ xs) new = (middle : LineState) × PutLine old middle x 0 × TookLines middle xs new
+TookLines old (r ∷ rs) new = (middle : LineState) × PutLine old middle (deletion_of old r) × TookLines middle rs new
 
 -- the output took the lines of the front of those that are to be deleted, and then memory ran out or it did not take the next
 pub record TookFront (rs : List Rest) (old new : LineState) (stop : LineStop) : Type 0 where
@@ -53,8 +52,8 @@ pub record TookFront (rs : List Rest) (old new : LineState) (stop : LineStop) : 
   pub rest : List Rest
   pub front_of : filter is_dropped rs ≡ front ++ rest
   pub middle : LineState
-  pub took : TookLines old (map deletion_of front) middle
-  pub cause : ((stop ≡ Memory) × (new ≡ middle)) ⊎ ((r : Rest) × (others : List Rest) × (rest ≡ r ∷ others) × WasPut middle new (deletion_of r) (Err stop))
+  pub took : TookLines old front middle
+  pub cause : ((stop ≡ Memory) × (new ≡ middle)) ⊎ ((r : Rest) × (others : List Rest) × (rest ≡ r ∷ others) × WasPut {T = Unit {0}} middle new (deletion_of middle r) (Err stop))
 
 -- after this journal all of them are what a work can go on with, and each has two literals or more
 abbrev pub AreLeftAfter : List (List Literal) → ℕ → List Rest → List Literal → List Fix → LineState → List Entry → Type 0

@@ -2,7 +2,6 @@
 use Rattle.std.specs.Prelude.{◌≡◌, ◌≢◌, false, List, [], length, Result, Ok, Err}
 use Rattle.sat_words.specs.FormulaData.{FormulaData}
 use Rattle.rup_model.specs.declared.journal.Entry.{Entry}
-use Rattle.rup_model.specs.Spent.{ruler_part, rings_part}
 use Rattle.drat_text.specs.LineState.{LineState}
 use Rattle.drat_text.specs.declared.stop.LineStop.{LineStop}
 use Rattle.simp_base.specs.WorkState.{WorkState, begun}
@@ -11,6 +10,7 @@ use Rattle.simp_base.specs.declared.work.Run.TheVariants.{Done}
 use Rattle.ruler_simp.specs.declared.rounds.Schedule.{Schedule}
 use Rattle.ruler_simp.specs.Rounds.{SimplifiedTo}
 use Rattle.portfolio_run.specs.declared.plan.Plan.{Plan}
+use Rattle.rup_model.specs.Opening.{ruler_part, rings_part}
 
 -- the rounds that the plan asks for: with additions, or without
 abbrev pub schedule_of : Plan → Schedule

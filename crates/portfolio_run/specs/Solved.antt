@@ -12,6 +12,7 @@ use Rattle.rup_model.specs.declared.journal.Entry.{Entry}
 use Rattle.rup_model.specs.Log.{Refutes}
 use Rattle.rup_model.specs.declared.journal.TheConstants.{RULER_RING}
 use Rattle.rup_model.specs.Journal.{ring_of, lines}
+use Rattle.rup_model.specs.NumberedLines.{numbered_lines}
 use Rattle.drat_text.specs.Spelling.{proof_bytes}
 use Rattle.log_book.specs.Ended.{IsClosed}
 use Rattle.log_book.specs.Kept.{HoldsText, IsFrontTold}
@@ -122,8 +123,8 @@ pub record IsFinished (format : ProofFormat) (clauses : List (List Literal)) (jo
   pub poured : ℕ
   pub grown : (searched ≤ poured) × (poured ≤ faults)
   pub closed : IsClosed poured faults flushed written
-  pub whole : IsSure before poured answer → HoldsText written (proof_bytes format (lines clauses journal))
-  pub front : (Rose before searched → ⊥) → IsFrontTold written (proof_bytes format (lines clauses journal))
+  pub whole : IsSure before poured answer → HoldsText written (proof_bytes format (numbered_lines clauses journal))
+  pub front : (Rose before searched → ⊥) → IsFrontTold written (proof_bytes format (numbered_lines clauses journal))
   pub short : IsCutShort format clauses journal written
 
 -- lines come back where they were to be kept and no call of the sink failed, unless memory ran out, and at no other time; they are

@@ -1,10 +1,9 @@
 // What the ruler does with what a round's table held: it deletes some clauses, and goes on with the others.
-ghost use Rattle.std.specs.Prelude.{◌≡◌, false, List, Err, map, filter, IfOk, IfErr, OnOk};
-ghost use Rattle.sat_words.specs.declared.line.Line.TheVariants.{Del as DelLine};
+ghost use Rattle.std.specs.Prelude.{◌≡◌, false, List, filter, IfOk, IfErr, OnOk};
+ghost use Rattle.sat_words.specs.Formats.{has_hints};
 ghost use Rattle.rup_model.specs.declared.journal.Entry.{Entry};
 ghost use Rattle.log_book.specs.Books.{told_of};
-ghost use Rattle.drat_text.specs.LineOut.{PutLine, WasPut};
-ghost use Rattle.portfolio_run.specs.Resumed.{is_dropped, kept_of, deletion_of, TookLines, TookFront, AreLeftAfter, WentOn};
+ghost use Rattle.portfolio_run.specs.Resumed.{is_dropped, kept_of, TookLines, TookFront, AreLeftAfter, WentOn};
 ghost use Rattle.portfolio_run.specs.Ruled.{schedule_of};
 
 use crate::plan::Plan;
@@ -13,26 +12,13 @@ use io_edge::Sink;
 use log_book::Book;
 use model_stack::Stack;
 use ruler_simp::{Outcome, Schedule, again};
-use sat_words::{Clause, Formula, Line, Lit, Lits};
+use sat_words::{Clause, Formula, Lit};
 use share_rule::{Ledger, Rest};
 use simp_base::LogEnd;
 use std::alloc::Global;
 
 /// The greatest glue of a clause that the ruler goes on with after a round (Audemard and Simon 2009).
 pub const KEPT_GLUE: u32 = 2;
-
-/// Puts the line that deletes the clause.
-fn drop_clause<L: LineOut>(alloc: Global, clause: &Clause, output: &mut L) -> Result<(), LineStop>
-    requires unspent { (L.told output.old).spent ≡ false }
-    ensures stands { OnOk result (PutLine (L.told output.old) (L.told output.new) (DelLine clause.now) 0) }
-    ensures refused { IfErr result (λ stop. WasPut (L.told output.old) (L.told output.new) (DelLine clause.now) (Err stop)) }
-{
-    let Ok(lits) = Lits::from_slice(alloc, clause.lits()) else {
-        return Err(LineStop::Memory);
-    };
-    output.put(&Line::Del(lits))?;
-    Ok(())
-}
 
 /// Deletes each clause whose glue is above that, with a line for each, and gives the others back under their numbers, all in order.
 fn drop_rests<L: LineOut>(
@@ -42,7 +28,7 @@ fn drop_rests<L: LineOut>(
 ) -> Result<Vec<(u64, Clause)>, LineStop>
     requires unspent { (L.told output.old).spent ≡ false }
     ensures kept { IfOk result (λ kept. kept.items ≡ kept_of rests.items) }
-    ensures took { OnOk result (TookLines (L.told output.old) (map deletion_of (filter is_dropped rests.items)) (L.told output.new)) }
+    ensures took { OnOk result (TookLines (L.told output.old) (filter is_dropped rests.items) (L.told output.new)) }
     ensures stopped { IfErr result (λ stop. TookFront rests.items (L.told output.old) (L.told output.new) stop) }
 {
     let Ok(mut kept) = Vec::with_capacity(alloc, rests.len()) else {
@@ -55,7 +41,7 @@ fn drop_rests<L: LineOut>(
             glue,
         } = rest;
         if glue > KEPT_GLUE {
-            drop_clause(alloc, &clause, output)?;
+            output.del(number, clause.lits())?;
         } else {
             kept.push_reserved((number, clause));
         }
@@ -77,6 +63,7 @@ pub(crate) fn resume<S: Sink>(
     book: Book<S>,
 ) -> (Result<Outcome, LineStop>, Book<S>)
     requires unspent { book.log.lines.spent ≡ false }
+    requires plain { has_hints book.log.lines.format ≡ false }
     requires left { (J : List Entry) × AreLeftAfter formula.now.clauses vars rests.items units.items stack (told_of S.written S.flushed S.target S.faults book) J }
     ensures { WentOn formula.now.clauses (schedule_of plan.now) vars rests.items units.items stack (told_of S.written S.flushed S.target S.faults book) (told_of S.written S.flushed S.target S.faults result.1) result.0 }
 {

@@ -1,6 +1,7 @@
 // The rounds of the rings: each begins where the rings rest, and ends the run or leaves the rings at rest again.
-ghost use Rattle.std.specs.Prelude.{◌≡◌, ◌<◌, ◌≤◌, ◌^◌, ◌↔◌, ℕ, true, All, List, length, replicate, IfOk, IfErr, IfSome};
+ghost use Rattle.std.specs.Prelude.{◌≡◌, ◌<◌, ◌≤◌, ◌^◌, ◌↔◌, ℕ, true, false, All, List, length, replicate, IfOk, IfErr, IfSome};
 ghost use Rattle.io_edge.specs.Paths.{IsEmptyWhereTold};
+ghost use Rattle.sat_words.specs.Formats.{has_hints};
 ghost use Rattle.sat_words.specs.Literal.{IsOn};
 ghost use Rattle.rup_model.specs.declared.journal.Entry.{Entry};
 ghost use Rattle.core_rounds.specs.InRounds.{round_limit};
@@ -107,6 +108,7 @@ fn pause<S: Sink>(
     requires spent { WasSpent S.written S.flushed S.target S.faults known plan.now formula.now vars stack tally.items done table first }
     requires more { done < plan.now.conflicts }
     requires none { counts.items ≡ replicate plan.now.threads no_counts }
+    requires plain { has_hints plan.now.format ≡ false }
     ensures paused { IfOk result (λ q. IsPaused (pause_of S.written S.flushed S.target S.faults known plan.now formula.now q.left q.tally.items q.done q.book)) }
     ensures same { IfOk result (λ q. (q.done ≡ done) × (q.counts.items ≡ counts.items)) }
     ensures over { IfErr result (λ e. HasReached S.written S.flushed S.target S.faults known plan.now formula.now e.answer e.tally.items e.book) }
@@ -176,6 +178,7 @@ fn run_table<S: Sink + Send, G: Gate + Sync, H: Threads + Wait + Sync>(
     requires empty { IsEmptyWhereTold (S.written known) }
     requires opened { IsOpened S.written S.flushed S.target S.faults known plan.now formula.now left tally.items done limit opened.0 opened.1 opened.2.items }
     requires none { counts.items ≡ replicate plan.now.threads no_counts }
+    requires plain { has_hints plan.now.format ≡ false }
     ensures paused { IfOk result (λ q. IsPaused (pause_of S.written S.flushed S.target S.faults known plan.now formula.now q.left q.tally.items q.done q.book)) }
     ensures none { IfOk result (λ q. q.counts.items ≡ replicate plan.now.threads no_counts) }
     ensures more { IfOk result (λ q. (done < q.done) × (q.done ≤ plan.now.conflicts)) }
@@ -235,6 +238,7 @@ fn run_noted<S: Sink + Send, G: Gate + Sync, H: Threads + Wait + Sync>(
     requires paused { IsPausedAt (pause_of S.written S.flushed S.target S.faults known.0 plan.now formula.now paused.left paused.tally.items paused.done paused.book) known.3 }
     requires same { (paused.tally.items ≡ known.1) × (paused.done ≡ known.2) }
     requires none { paused.counts.items ≡ replicate plan.now.threads no_counts }
+    requires plain { has_hints plan.now.format ≡ false }
     ensures paused { IfOk result (λ q. IsPaused (pause_of S.written S.flushed S.target S.faults known.0 plan.now formula.now q.left q.tally.items q.done q.book)) }
     ensures none { IfOk result (λ q. q.counts.items ≡ replicate plan.now.threads no_counts) }
     ensures more { IfOk result (λ q. (paused.done < q.done) × (q.done ≤ plan.now.conflicts)) }
@@ -283,6 +287,7 @@ pub(crate) fn run_round<S: Sink + Send, G: Gate + Sync, H: Threads + Wait + Sync
     requires paused { IsPaused (pause_of S.written S.flushed S.target S.faults known.0 plan.now formula.now paused.left paused.tally.items paused.done paused.book) }
     requires is { known.1 ≡ pause_of S.written S.flushed S.target S.faults known.0 plan.now formula.now paused.left paused.tally.items paused.done paused.book }
     requires none { paused.counts.items ≡ replicate plan.now.threads no_counts }
+    requires plain { has_hints plan.now.format ≡ false }
     ensures paused { IfOk result (λ q. IsPaused (pause_of S.written S.flushed S.target S.faults known.0 plan.now formula.now q.left q.tally.items q.done q.book)) }
     ensures none { IfOk result (λ q. q.counts.items ≡ replicate plan.now.threads no_counts) }
     ensures more { IfOk result (λ q. (paused.done < q.done) × (q.done ≤ plan.now.conflicts)) }

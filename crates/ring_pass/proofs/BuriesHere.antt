@@ -123,11 +123,12 @@ sheet_buried v t ws k a e = subst (λ (ns : List Note). AfterBurials (only v).co
 
 -- the next clause waits, as the turn has it
 pub may_bury : {S : Type 0} {d : Ghosts S} (v : View) (t : Turn S d) (ws : List Waiting) (k : ℕ) (x : Waiting) → AreWaiting ws (only v).core.waiting → t.noted.items ≡ burials (take k ws) → k < length ws → x ≡ get_or ws k x
-    → (0 < times_at x.cell.address (sheet v t).part.waiting) × (x.lits.items ≡ (waiting v t x.cell.address).lits)
+    → (0 < times_at x.cell.address (sheet v t).part.waiting) × (x.number ≡ (waiting v t x.cell.address).number) × (x.lits.items ≡ (waiting v t x.cell.address).lits)
 may_bury v t ws k x a e lt is =
     let n = are_at ws (only v).core.waiting k x a lt is in
     let f = first_here n.clause (drop (suc k) (only v).core.waiting) x.cell.address n.is.address in
-    subst (λ (hs : List ClauseAt). (0 < times_at x.cell.address hs) × (x.lits.items ≡ (clause_in x.cell.address hs).lits)) (sym ((sheet_buried v t ws k a e).waiting ∙ n.next)) (f.0, n.is.lits ∙ ap (λ (h : ClauseAt). h.lits) (sym f.1))
+    subst (λ (hs : List ClauseAt). (0 < times_at x.cell.address hs) × (x.number ≡ (clause_in x.cell.address hs).number) × (x.lits.items ≡ (clause_in x.cell.address hs).lits)) (sym ((sheet_buried v t ws k a e).waiting ∙ n.next))
+    (f.0, n.is.number ∙ ap (λ (h : ClauseAt). h.number) (sym f.1), n.is.lits ∙ ap (λ (h : ClauseAt). h.lits) (sym f.1))
 
 -- The ring, once the turn is given back
 

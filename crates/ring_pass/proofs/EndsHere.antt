@@ -71,7 +71,7 @@ abbrev pub ended_part : View → List Entry → Option Refusal → Bool → Ring
 ended_part v J x failed = give_part v.opening (sheet_after v.opening (only v).core.ring (sheet_with J (only v)) (Empty ∷ [])) x failed (only v)
 
 abbrev empty_entry : View → List Entry → Entry
-empty_entry v J = Add (record { ring = (only v).core.ring; number = next_number v.opening J; lits = []; kind = Derive })
+empty_entry v J = Add (record { ring = (only v).core.ring; number = next_number v.opening J; lits = []; kind = Derive; hints = [] })
 
 -- it ends the log
 over : (v : View) (J : List Entry) → ended v.opening.formula (J ++ empty_entry v J ∷ []) ≡ true

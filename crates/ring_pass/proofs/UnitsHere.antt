@@ -56,7 +56,7 @@ abbrev pub unit_line : View → List Entry → Kind → Literal → Option Refus
 unit_line v J kind lit x failed = give_part v.opening (sheet_after v.opening (only v).core.ring (sheet_with J (only v)) (UnitNote kind lit ∷ [])) x failed (only v)
 
 abbrev pub unit_entry : View → List Entry → Kind → Literal → Entry
-unit_entry v J kind lit = Add (record { ring = (only v).core.ring; number = next_number v.opening J; lits = lit ∷ []; kind = kind })
+unit_entry v J kind lit = Add (record { ring = (only v).core.ring; number = next_number v.opening J; lits = lit ∷ []; kind = kind; hints = [] })
 
 pub line_is : {v u : View} {kind : Kind} {lit : Literal} (h : Wrote v u (UnitNote kind lit)) → only u ≡ unit_line v h.journal kind lit h.refused h.failed
 line_is {v} {u} {kind} {lit} h = only_is u (unit_line v h.journal kind lit h.refused h.failed) h.gave.parts

@@ -17,7 +17,7 @@ clause_with address number lits = record { address = address; number = number; l
 
 -- the ring's entry that adds it, at its place in the journal
 abbrev pub placed_line : (place ring number : ℕ) → List Literal → Kind → Placed
-placed_line place ring number lits kind = record { place = place; entry = Add (record { ring = ring; number = number; lits = lits; kind = kind }) }
+placed_line place ring number lits kind = record { place = place; entry = Add (record { ring = ring; number = number; lits = lits; kind = kind; hints = [] }) }
 
 -- the ring holds a clause that it added, at an address at which nothing stood that it knows, under a number of its own; it builds
 -- no other cell than before; if it was learned the ticket is used up; no write has failed

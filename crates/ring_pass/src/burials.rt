@@ -22,7 +22,6 @@ const DELETIONS_IN_TURN: usize = 64;
 /// answers how many are deleted.
 fn bury_first<S: Sink>(
     turn: &mut Turn<S>,
-    alloc: Global,
     pass: &Pass<Book<S>>,
     waiting: &[Waiting],
     count: usize,
@@ -37,7 +36,7 @@ fn bury_first<S: Sink>(
 {
     for i in 0..count {
         let clause = &waiting[i];
-        match turn.bury(pass, alloc, clause.cell, clause.lits.as_slice()) {
+        match turn.bury(pass, clause.cell, clause.number, clause.lits.as_slice()) {
             Ok(()) => {}
             Err(stop) => return Err((i, stop)),
         }
@@ -66,7 +65,7 @@ pub(crate) fn write_deletions<H: Wait, S: Sink>(
 {
     let count = waiting.len().min(DELETIONS_IN_TURN);
     let mut turn = take_turn(rt, alloc, table, pass, ring);
-    let buried = bury_first(&mut turn, alloc, pass, waiting, count);
+    let buried = bury_first(&mut turn, pass, waiting, count);
     give_turn(table, pass, turn);
     match buried {
         Ok(()) => Ok(count),

@@ -55,7 +55,7 @@ pub(crate) fn write_empty<H: Wait, S: Sink>(
     ensures refused { IfErr result (WroteNone pass.old.me.0 pass.new.me.0) }
 {
     let mut turn = take_turn(rt, alloc, table, pass, ring);
-    let added = turn.add_empty(pass, alloc);
+    let added = turn.add_empty(pass);
     give_turn(table, pass, turn);
     added
 }
@@ -80,7 +80,7 @@ pub(crate) fn write_unit<H: Wait, S: Sink>(
     ensures refused { IfErr result (WroteNone pass.old.me.0 pass.new.me.0) }
 {
     let mut turn = take_turn(rt, alloc, table, pass, ring);
-    let added = turn.add_unit(pass, alloc, kind, lit);
+    let added = turn.add_unit(pass, kind, lit);
     give_turn(table, pass, turn);
     added
 }

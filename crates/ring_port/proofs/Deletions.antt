@@ -1,7 +1,7 @@
 -- What the deletion of a clause that waits keeps of the one journal behind its port.
 use Rattle.std.proofs.Common.{◌≡◌, ◌≢◌, ℕ, suc, get_or, true, false, List, [], ◌∷◌, ◌++◌, length, sym, refl, ap, subst, ◌∙◌, arith, Some, None, append_assoc, append-nil, length-append, inl, inr}
 use Rattle.std.specs.List.{list_any, All, Contains}
-use Rattle.std.specs.Prelude.{IsSomeAnd}
+use Rattle.std.specs.Prelude.{IsSomeAnd, ◌-◌}
 use Rattle.std.specs.Option.{unwrap_or}
 use Rattle.std.specs.declared.option.Option.{Option}
 use Rattle.std.proofs.lemmas.Bool.{false≢true}
@@ -21,7 +21,8 @@ use Rattle.rup_model.proofs.Numbers.{book_last, lines_last}
 use Rattle.rup_model.proofs.JournalSteps.{not_added, log_dels}
 use Rattle.rup_model.proofs.Additions.{added-append}
 use Rattle.drat_text.specs.LineState.{LineState}
-use Rattle.drat_text.specs.LineOut.{PutLine, with_line}
+use Rattle.rup_model.specs.NumberedLines.{Deleted, numbered_after}
+use Rattle.drat_text.specs.LineOut.{PutLine, with_line, deleted_line}
 use Rattle.drat_text.proofs.JournalLines.{has_text_next}
 use Rattle.ring_port.specs.PortState.{Holding, PortState, IsOn}
 use Rattle.ring_port.specs.Log.{Origin, Keeps, StandsOver, HasLines, journal_of}
@@ -55,6 +56,9 @@ module _ (o : Origin) (s : PortState) (h : StandsOver o s) (ring : s.ring ≡ 0)
   line_is : lines_after (book F J) deletes ≡ DelLine w.lits ∷ []
   line_is = λ i. DelLine (spelled_by (ring i) (unwrap_or (alive i) [])) ∷ []
 
+  numbered_is : (last : ℕ) → (book F J).next - 1 ≡ last → numbered_after (book F J) deletes ≡ Deleted last w.number w.lits ∷ []
+  numbered_is last e = λ i. Deleted (e i) w.number (spelled_by (ring i) (unwrap_or (alive i) [])) ∷ []
+
   lines_more : lines F (J ++ deletes ∷ []) ≡ lines F J ++ DelLine w.lits ∷ []
   lines_more = lines_last F J deletes ∙ ap (λ L. lines F J ++ L) line_is
 
@@ -84,9 +88,9 @@ module _ (o : Origin) (s : PortState) (h : StandsOver o s) (ring : s.ring ≡ 0)
     other_waiting : All (λ c. (book F shrunk).clause c.number ≡ Some c.lits) rest
     other_waiting k d lt = others_alive (get_or rest k d) (λ e. once k d lt (h.numbers (get_or rest k d) w (inr (subst (λ hs. Contains hs (get_or rest k d)) (sym first) (In_Contains (w ∷ rest) (get_or rest k d) (inr (In_get_or rest k d lt))))) w_waits e)) (waits (suc k) d (omega arith))
 
-    module _ (a b : LineState) (out : s.output ≡ Some a) (unspent : a.spent ≡ false) (number : ℕ) (did : PutLine a b (DelLine w.lits) number) where
+    module _ (a b : LineState) (out : s.output ≡ Some a) (unspent : a.spent ≡ false) (did : PutLine a b (deleted_line a w.number w.lits)) where
       abbrev put_output : LineState
-      put_output = with_line a (DelLine w.lits)
+      put_output = with_line a (deleted_line a w.number w.lits)
 
       abbrev after_deletion : PortState
       after_deletion = record s { waiting = rest; mine = s.mine ++ deletes ∷ []; output = Some b }
@@ -100,7 +104,7 @@ module _ (o : Origin) (s : PortState) (h : StandsOver o s) (ring : s.ring ≡ 0)
             last = ap (λ (k : Book). k.next) book_is ∙ was.last;
             usable = was.usable;
             caused = caused_later s after_deletion a put_output s.refused going did.room refl was.caused;
-            whole = λ q. has_text_next o s.mine a put_output (DelLine w.lits) (was.whole q) deletes line_is number (record { room = did.room; given = did.given; state = refl });
+            whole = λ q. has_text_next o s.mine a put_output (deleted_line a w.number w.lits) (was.whole q) deletes (numbered_is a.last (let l = was.last in omega arith)) (record { room = did.room; state = refl });
             short = λ q. absurd (false≢true (sym unspent ∙ q));
             target = was.target;
             flushed = was.flushed;

@@ -1,5 +1,5 @@
 -- What an addition of the ring keeps of the one journal behind its port.
-use Rattle.std.proofs.Common.{◌≡◌, ℕ, zero, suc, ◌<◌, ◌==◌, ◌||◌, ◌⊎◌, Bool, true, false, not, cond, List, [], ◌∷◌, ◌++◌, length, map, sym, refl, ap, subst, ◌∙◌, inl, inr, ⊎_elim, arith, Some, None, append_assoc, length-append}
+use Rattle.std.proofs.Common.{◌≡◌, ℕ, zero, suc, ◌+◌, ◌<◌, ◌==◌, ◌||◌, ◌⊎◌, Bool, true, false, not, cond, List, [], ◌∷◌, ◌++◌, length, map, sym, refl, ap, subst, ◌∙◌, inl, inr, ⊎_elim, arith, Some, None, append_assoc, length-append}
 use Rattle.std.specs.List.{list_any, All, Contains}
 use Rattle.std.specs.Prelude.{IsSomeAnd}
 use Rattle.std.specs.declared.option.Option.{Option}
@@ -8,7 +8,6 @@ use Rattle.std.proofs.lemmas.List.Elements.{All-append}
 use Rattle.std.proofs.lemmas.List.Folds.{list_any-append}
 use Rattle.sat_words.specs.Literal.{Literal, same}
 use Rattle.sat_words.specs.Clause.{same_set, is_empty, clause_of}
-use Rattle.sat_words.specs.declared.line.Line.{Line}
 use Rattle.sat_words.specs.declared.line.Line.TheVariants.{Add as AddLine}
 use Rattle.rup_model.specs.declared.journal.TheConstants.{RULER_RING}
 use Rattle.rup_model.specs.declared.journal.Kind.{Kind}
@@ -27,7 +26,8 @@ use Rattle.rup_model.proofs.JournalSteps.{not_added, log_adds}
 use Rattle.rup_model.proofs.Additions.{added-append, told_more}
 use Rattle.rup_model.proofs.Told.{told_alive}
 use Rattle.drat_text.specs.LineState.{LineState}
-use Rattle.drat_text.specs.LineOut.{PutLine, FailedLine, with_line}
+use Rattle.rup_model.specs.NumberedLines.{NumberedLine, Added, line_of}
+use Rattle.drat_text.specs.LineOut.{PutLine, FailedLine, with_line, added_line}
 use Rattle.drat_text.proofs.JournalLines.{has_text_next, has_text_cut}
 use Rattle.sat_words.specs.declared.shared.Stop.{Stop}
 use Rattle.sat_words.specs.declared.shared.TheConstants.{MAX_ENTRIES}
@@ -62,7 +62,7 @@ module _ (o : Origin) (s : PortState) (h : StandsOver o s) (ring : s.ring ≡ 0)
   J = journal_of o s
 
   abbrev x : Addition
-  x = record { ring = s.ring; number = number; lits = lits; kind = kind }
+  x = record { ring = s.ring; number = number; lits = lits; kind = kind; hints = [] }
 
   abbrev grown : List Entry
   grown = o.journal ++ (s.mine ++ Add x ∷ [])
@@ -199,12 +199,12 @@ caused_same s t a (Some Memory) same c = c
 
 -- A line that was put
 module _ (o : Origin) (s : PortState) (h : StandsOver o s) (ring : s.ring ≡ 0) (lits : List Literal) (kind : Kind) (number : ℕ)
-    (follows : rup (known s) lits ≡ true) (going : s.ended ≡ false) (on : All (IsOn s.vars) lits) (a b : LineState) (out : s.output ≡ Some a) (unspent : a.spent ≡ false) (put : PutLine a b (AddLine lits) number) where
+    (follows : rup (known s) lits ≡ true) (going : s.ended ≡ false) (on : All (IsOn s.vars) lits) (a b : LineState) (out : s.output ≡ Some a) (unspent : a.spent ≡ false) (given : number ≡ a.last + 1) (put : PutLine a b (added_line a lits [])) where
   abbrev put_output : LineState
-  put_output = with_line a (AddLine lits)
+  put_output = with_line a (added_line a lits [])
 
   pub number_is : number ≡ (book o.formula (journal_of o s)).next
-  number_is = put.given ∙ sym (output_of o s a h out).last
+  number_is = given ∙ sym (output_of o s a h out).last
 
   -- the port after it, with what it then holds and has seen
   abbrev after : List Holding → List Literal → Option ℕ → Bool → PortState
@@ -220,7 +220,7 @@ module _ (o : Origin) (s : PortState) (h : StandsOver o s) (ring : s.ring ≡ 0)
         last = (let l = was.last in let n = ap (λ (k : Book). k.next) books in omega arith);
         usable = was.usable;
         caused = caused_later s (after H S la en) a put_output s.refused going put.room refl was.caused;
-        whole = λ q. has_text_next o s.mine a put_output (AddLine lits) (was.whole q) (entry_of s number lits kind) refl number (record { room = put.room; given = put.given; state = refl });
+        whole = λ q. has_text_next o s.mine a put_output (added_line a lits []) (was.whole q) (entry_of s number lits kind) (ap (λ (n : ℕ). Added n lits [] ∷ []) given) (record { room = put.room; state = refl });
         short = λ q. absurd (false≢true (sym unspent ∙ q));
         target = was.target;
         flushed = was.flushed;
@@ -247,7 +247,7 @@ module _ (o : Origin) (s : PortState) (h : StandsOver o s) (ring : s.ring ≡ 0)
   }
 
 -- A line at which the output failed, and which would be accepted
-pub stands_failed : (o : Origin) (s : PortState) (h : StandsOver o s) (x : Line) → Accepted o.formula (lines o.formula (journal_of o s) ++ x ∷ []) → All (IsOn s.vars) (lits_of x)
+pub stands_failed : (o : Origin) (s : PortState) (h : StandsOver o s) (x : NumberedLine) → Accepted o.formula (lines o.formula (journal_of o s) ++ line_of x ∷ []) → All (IsOn s.vars) (lits_of (line_of x))
     → (a b : LineState) → s.output ≡ Some a → a.spent ≡ false → FailedLine a b x → StandsOver o (record s { refused = Some ProofFault; output = Some b })
 stands_failed o s h x accepted on a b out unspent failed =
     let was = output_of o s a h out in

@@ -11,7 +11,7 @@ use Rattle.sat_words.specs.Literal.{Literal}
 use Rattle.sat_words.specs.Clause.{is_empty}
 use Rattle.sat_words.specs.declared.shared.Cref.{Cref}
 use Rattle.sat_words.specs.declared.shared.Stop.{Stop}
-use Rattle.sat_words.specs.declared.line.Line.TheVariants.{Add as AddLine, Del as DelLine}
+use Rattle.drat_text.specs.LineOut.{added_line, deleted_line}
 use Rattle.rup_model.specs.declared.journal.Kind.{Kind}
 use Rattle.rup_model.specs.declared.journal.Kind.TheVariants.{Learn}
 use Rattle.rup_model.specs.Rup.{rup}
@@ -74,14 +74,14 @@ pub unit_keeps : (p : PlainData) (r : ℕ) (g : LogData) (l : Literal) (kind : K
     → KeepsLog (state_of p) (state_of (record p { written = p.written ++ l ∷ []; log = g; last = last; tickets = ti }))
 unit_keeps p r g l kind number last ti usable on follows added o h =
     let s = state_of p in
-    let next = number_is o s h refl (l ∷ []) kind number follows added.going (one_All (IsOn p.vars) l on) p.log.output g.output refl (unspent_of o p h usable) added.put in
+    let next = number_is o s h refl (l ∷ []) kind number follows added.going (one_All (IsOn p.vars) l on) p.log.output g.output refl (unspent_of o p h usable) added.given added.put in
     let seen = subst (λ (ls : List Literal). All (λ k. is_told o.formula (o.journal ++ (p.log.mine ++ own_entry number (l ∷ []) kind ∷ [])) k ≡ true) ls) (append_assoc (take p.passed p.opening) p.written (l ∷ []))
     (All-append (λ k. is_told o.formula (o.journal ++ (p.log.mine ++ own_entry number (l ∷ []) kind ∷ [])) k ≡ true) (take p.passed p.opening ++ p.written) (l ∷ [])
     (all_told_next o s h refl (l ∷ []) kind number (take p.passed p.opening ++ p.written) h.seen)
     (one_All (λ k. is_told o.formula (o.journal ++ (p.log.mine ++ own_entry number (l ∷ []) kind ∷ [])) k ≡ true) l (told_here o s h refl (l ∷ []) kind number l refl))) in
     tickets_keep (record p { written = p.written ++ l ∷ []; log = g; last = last }) ti o
     (subst (λ k. StandsOver o (state_of (record p { written = p.written ++ l ∷ []; log = k; last = last }))) (sym added.state)
-    (stands_after o s h refl (l ∷ []) kind number follows added.going (one_All (IsOn p.vars) l on) p.log.output g.output refl (unspent_of o p h usable) added.put
+    (stands_after o s h refl (l ∷ []) kind number follows added.going (one_All (IsOn p.vars) l on) p.log.output g.output refl (unspent_of o p h usable) added.given added.put
     p.held (take p.passed p.opening ++ (p.written ++ l ∷ [])) (option_map (λ c. c.address) last) p.log.ended
     (held_next o s h refl (l ∷ []) kind number) seen (h.ended ∙ sym (ended_stays o s h refl (l ∷ []) kind number refl)) h.numbers))
 
@@ -92,13 +92,13 @@ pub clause_keeps : (p : PlainData) (r : ℕ) (g : LogData) (lits : List Literal)
 clause_keeps p r g lits kind number glue address last ti plain usable long on follows added o h =
     let s = state_of p in
     let x : Holding = record { address = address; number = number; glue = glue; lits = lits } in
-    let next = number_is o s h refl lits kind number follows added.going on p.log.output g.output refl (unspent_of o p h usable) added.put in
+    let next = number_is o s h refl lits kind number follows added.going on p.log.output g.output refl (unspent_of o p h usable) added.given added.put in
     let held = All-append (λ c. (book o.formula (o.journal ++ (p.log.mine ++ own_entry number lits kind ∷ []))).clause c.number ≡ Some c.lits) p.held (x ∷ []) (held_next o s h refl lits kind number)
     (one_All (λ c. (book o.formula (o.journal ++ (p.log.mine ++ own_entry number lits kind ∷ []))).clause c.number ≡ Some c.lits) x (added_here o s h refl lits kind number next)) in
     let pushed : LogData → PortState = λ k. state_of (record p { held = p.held ++ x ∷ []; log = k; last = last }) in
     tickets_keep (record p { held = p.held ++ x ∷ []; log = g; last = last }) ti o
     (subst (λ k. StandsOver o (pushed k)) (sym added.state)
-    (stands_after o s h refl lits kind number follows added.going on p.log.output g.output refl (unspent_of o p h usable) added.put
+    (stands_after o s h refl lits kind number follows added.going on p.log.output g.output refl (unspent_of o p h usable) added.given added.put
     (p.held ++ x ∷ []) (take p.passed p.opening ++ p.written) (option_map (λ c. c.address) last) p.log.ended
     held (all_told_next o s h refl lits kind number (take p.passed p.opening ++ p.written) h.seen)
     (h.ended ∙ sym (ended_stays o s h refl lits kind number (some_literal lits long)))
@@ -112,14 +112,14 @@ empty_keeps p r g kind number usable follows added o h =
     let s = state_of p in
     let none : All (IsOn p.vars) [] = λ k d lt. absurd (omega arith) in
     subst (λ k. StandsOver o (state_of (record p { log = record k { ended = true } }))) (sym added.state)
-    (stands_after o s h refl [] kind number follows added.going none p.log.output g.output refl (unspent_of o p h usable) added.put
+    (stands_after o s h refl [] kind number follows added.going none p.log.output g.output refl (unspent_of o p h usable) added.given added.put
     p.held (take p.passed p.opening ++ p.written) (option_map (λ c. c.address) p.last) true
     (held_next o s h refl [] kind number) (all_told_next o s h refl [] kind number (take p.passed p.opening ++ p.written) h.seen)
     (sym (ended_next o s h refl [] kind number ∙ or_right _ _ refl)) h.numbers)
 
 -- no line
 pub refused_keeps : (p : PlainData) (r : ℕ) (g : LogData) (lits : List Literal) (stop : PortStop)
-    → is_usable p.log.refused ≡ true → All (IsOn p.vars) lits → rup (known (state_of p)) lits ≡ true → NotPut (record p.log { room = r }) g (AddLine lits) stop
+    → is_usable p.log.refused ≡ true → All (IsOn p.vars) lits → rup (known (state_of p)) lits ≡ true → NotPut (record p.log { room = r }) g (added_line p.log.output lits []) stop
     → KeepsLog (state_of p) (state_of (record p { log = g }))
 refused_keeps p r g lits Ended usable on follows why o h =
     subst (λ k. StandsOver o (state_of (record p { log = k }))) (sym why.1)
@@ -128,7 +128,7 @@ refused_keeps p r g lits Ended usable on follows why o h =
 refused_keeps p r g lits Broken usable on follows why o h = absurd why
 refused_keeps p r g lits ProofFault usable on follows why o h =
     subst (λ k. StandsOver o (state_of (record p { log = k }))) (sym why.state)
-    (stands_failed o (state_of p) h (AddLine lits) (accepted_next o (state_of p) h refl lits Learn (book o.formula (journal_of o (state_of p))).next follows why.going refl) on p.log.output g.output refl (unspent_of o p h usable) why.put)
+    (stands_failed o (state_of p) h (added_line p.log.output lits []) (accepted_next o (state_of p) h refl lits Learn (book o.formula (journal_of o (state_of p))).next follows why.going refl) on p.log.output g.output refl (unspent_of o p h usable) why.put)
 refused_keeps p r g lits (NoHole lack) usable on follows why o h =
     subst (λ k. StandsOver o (state_of (record p { log = k }))) (sym why.state)
     (stands_with o (state_of p) h p.log.output refl (take p.passed p.opening ++ p.written) p.given (length p.opening - p.passed) p.stop p.looks (Some (NoHole lack)) p.log.ended
@@ -294,7 +294,7 @@ module _ (p : PlainData) (plain : IsPlain p) (x : Holding) (xs : List Holding) (
   pub deletion_keeps : DeletedEntry (record p.log { room = r }) g x.lits x.number → KeepsLog (state_of p) (state_of (record p { waiting = xs; log = g }))
   deletion_keeps did o h =
       subst (λ k. StandsOver o (state_of (record p { waiting = xs; log = k }))) (sym did.state)
-      (stands_deleted o (state_of p) h refl x xs first kept_x.shape did.going not_held waits_once p.log.output g.output refl (unspent_of o p h usable) did.given did.put)
+      (stands_deleted o (state_of p) h refl x xs first kept_x.shape did.going not_held waits_once p.log.output g.output refl (unspent_of o p h usable) did.put)
 
   pub deletion_did : DeletedEntry (record p.log { room = r }) g x.lits x.number → TidiedUpTo (state_of p) (state_of (record p { waiting = xs; log = g })) 1
   deletion_did did = record {
@@ -303,7 +303,7 @@ module _ (p : PlainData) (plain : IsPlain p) (x : Holding) (xs : List Holding) (
         ∙ (λ i. record (state_of p) { waiting = drop 1 (sym first i); mine = p.log.mine ++ deletions 0 (take 1 (sym first i)); output = Some g.output });
   }
 
-  pub deletion_refused : (stop : PortStop) → NotPut (record p.log { room = r }) g (DelLine x.lits) stop → KeepsLog (state_of p) (state_of (record p { log = g }))
+  pub deletion_refused : (stop : PortStop) → NotPut (record p.log { room = r }) g (deleted_line p.log.output x.number x.lits) stop → KeepsLog (state_of p) (state_of (record p { log = g }))
   deletion_refused Ended why o h =
       subst (λ k. StandsOver o (state_of (record p { log = k }))) (sym why.1)
       (stands_with o (state_of p) h p.log.output refl (take p.passed p.opening ++ p.written) p.given (length p.opening - p.passed) p.stop p.looks (Some Ended) p.log.ended
@@ -311,7 +311,7 @@ module _ (p : PlainData) (plain : IsPlain p) (x : Holding) (xs : List Holding) (
   deletion_refused Broken why o h = absurd why
   deletion_refused ProofFault why o h =
       subst (λ k. StandsOver o (state_of (record p { log = k }))) (sym why.state)
-      (stands_failed o (state_of p) h (DelLine x.lits) (accepted_deletion o (state_of p) h refl x xs first kept_x.shape why.going) kept_x.on p.log.output g.output refl (unspent_of o p h usable) why.put)
+      (stands_failed o (state_of p) h (deleted_line p.log.output x.number x.lits) (accepted_deletion o (state_of p) h refl x xs first kept_x.shape why.going) kept_x.on p.log.output g.output refl (unspent_of o p h usable) why.put)
   deletion_refused (NoHole lack) why o h =
       subst (λ k. StandsOver o (state_of (record p { log = k }))) (sym why.state)
       (stands_with o (state_of p) h p.log.output refl (take p.passed p.opening ++ p.written) p.given (length p.opening - p.passed) p.stop p.looks (Some (NoHole lack)) p.log.ended

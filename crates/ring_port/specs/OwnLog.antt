@@ -1,15 +1,16 @@
 -- The log of a ring that writes alone, and what a line and an addition do to it.
-use Rattle.std.specs.Prelude.{◌≡◌, ℕ, ◌+◌, true, false, List, [], ◌∷◌, ◌++◌, Bool, Option, Some, Result, Ok, Err, ⊤}
+use Rattle.std.specs.Prelude.{◌≡◌, ℕ, ◌+◌, true, false, List, [], ◌∷◌, ◌++◌, Bool, Option, Some, Result, Ok, Err}
 use Rattle.sat_words.specs.Literal.{Literal}
-use Rattle.sat_words.specs.declared.line.Line.{Line}
 use Rattle.sat_words.specs.declared.shared.NoRoom.{NoRoom}
-use Rattle.sat_words.specs.declared.line.Line.TheVariants.{Add as AddLine, Del as DelLine}
 use Rattle.rup_model.specs.declared.journal.Kind.{Kind}
 use Rattle.rup_model.specs.declared.journal.Entry.{Entry}
 use Rattle.rup_model.specs.declared.journal.Entry.TheVariants.{Add, Del, Reduce}
 use Rattle.sat_words.specs.declared.shared.TheConstants.{MAX_ENTRIES}
+use Rattle.rup_model.specs.NumberedLines.{NumberedLine}
+use Rattle.drat_text.specs.declared.stop.LineStop.{LineStop}
+use Rattle.drat_text.specs.declared.stop.LineStop.TheVariants as line_stop
 use Rattle.drat_text.specs.LineState.{LineState}
-use Rattle.drat_text.specs.LineOut.{PutLine, FailedLine}
+use Rattle.drat_text.specs.LineOut.{PutLine, FailedLine, added_line, deleted_line}
 use Rattle.ring_port.specs.declared.stops.PortStop.{PortStop}
 use Rattle.ring_port.specs.declared.stops.PortStop.TheVariants.{Ended, Broken, ProofFault, NoHole, Memory}
 
@@ -21,23 +22,24 @@ pub record LogData : Type 0 where
   pub ended : Bool
   pub refused : Option PortStop
 
--- the line adds a clause
-abbrev pub IsAddition : Line → Type 0
-IsAddition (AddLine lits) = ⊤
-IsAddition (DelLine lits) = ⊥
+-- what a port answers to a line that was not put
+abbrev pub stop_of : LineStop → PortStop
+stop_of line_stop.ProofFault = ProofFault
+stop_of line_stop.Full = NoHole (record { need = MAX_ENTRIES + 1; largest = MAX_ENTRIES })
+stop_of line_stop.Memory = Memory
+
+-- the last answer that refused, once a line was not put: want of memory is not noted
+abbrev pub noted : Option PortStop → LineStop → Option PortStop
+noted refused line_stop.ProofFault = Some (stop_of line_stop.ProofFault)
+noted refused line_stop.Full = Some (stop_of line_stop.Full)
+noted refused line_stop.Memory = refused
 
 -- ring 0 adds the clause
 abbrev pub own_entry : ℕ → List Literal → Kind → Entry
-own_entry number lits kind = Add (record { ring = 0; number = number; lits = lits; kind = kind })
-
--- the line stands
-pub record StandingLine (old new : LogData) (x : Line) (number : ℕ) : Type 0 where
-  pub going : old.ended ≡ false
-  pub put : PutLine old.output new.output x number
-  pub state : new ≡ record old { output = new.output }
+own_entry number lits kind = Add (record { ring = 0; number = number; lits = lits; kind = kind; hints = [] })
 
 -- the output failed at the line
-pub record FaultyLine (old new : LogData) (x : Line) : Type 0 where
+pub record FaultyLine (old new : LogData) (x : NumberedLine) : Type 0 where
   pub going : old.ended ≡ false
   pub put : FailedLine old.output new.output x
   pub state : new ≡ record old { output = new.output; refused = Some ProofFault }
@@ -51,40 +53,35 @@ pub record FullLog (old new : LogData) (lack : NoRoom) : Type 0 where
   pub state : new ≡ record old { refused = Some (NoHole lack) }
 
 -- why the line does not stand, and how that leaves the log
-abbrev pub NotPut : LogData → LogData → Line → PortStop → Type 0
+abbrev pub NotPut : LogData → LogData → NumberedLine → PortStop → Type 0
 NotPut old new x Ended = (old.ended ≡ true) × (new ≡ record old { refused = Some Ended })
 NotPut old new x Broken = ⊥
 NotPut old new x ProofFault = FaultyLine old new x
 NotPut old new x (NoHole lack) = FullLog old new lack
 NotPut old new x Memory = new ≡ old
 
--- what became of the line
-abbrev pub WasPut : LogData → LogData → Line → Result ℕ PortStop → Type 0
-WasPut old new x (Ok number) = StandingLine old new x number
-WasPut old new x (Err stop) = NotPut old new x stop
-
 -- the line that adds the clause stands, and its entry
 pub record AddedEntry (old new : LogData) (lits : List Literal) (kind : Kind) (number : ℕ) : Type 0 where
   pub going : old.ended ≡ false
-  pub put : PutLine old.output new.output (AddLine lits) number
+  pub given : number ≡ old.output.last + 1
+  pub put : PutLine old.output new.output (added_line old.output lits [])
   pub state : new ≡ record old { output = new.output; mine = old.mine ++ own_entry number lits kind ∷ []; room = new.room }
 
 -- what the addition of a clause did
 abbrev pub WasAdded : LogData → LogData → List Literal → Kind → Result ℕ PortStop → Type 0
 WasAdded old new lits kind (Ok number) = AddedEntry old new lits kind number
-WasAdded old new lits kind (Err stop) = NotPut old new (AddLine lits) stop
+WasAdded old new lits kind (Err stop) = NotPut old new (added_line old.output lits []) stop
 
 -- the line that deletes the clause stands, and its entry
 pub record DeletedEntry (old new : LogData) (lits : List Literal) (number : ℕ) : Type 0 where
   pub going : old.ended ≡ false
-  pub given : ℕ
-  pub put : PutLine old.output new.output (DelLine lits) given
+  pub put : PutLine old.output new.output (deleted_line old.output number lits)
   pub state : new ≡ record old { output = new.output; mine = old.mine ++ Del 0 number ∷ []; room = new.room }
 
 -- what the deletion of a clause did
 abbrev pub WasDeleted : LogData → LogData → List Literal → ℕ → Result (Unit {0}) PortStop → Type 0
 WasDeleted old new lits number (Ok done) = DeletedEntry old new lits number
-WasDeleted old new lits number (Err stop) = NotPut old new (DelLine lits) stop
+WasDeleted old new lits number (Err stop) = NotPut old new (deleted_line old.output number lits) stop
 
 -- the entry of a reduction stands, which has no line
 pub record ReducedLog (old new : LogData) : Type 0 where

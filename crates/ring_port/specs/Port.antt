@@ -77,7 +77,7 @@ pub record Refused (old new : PortState) (stop : PortStop) : Type 0 where
 
 -- the ring's entry that adds the clause
 abbrev pub entry_of : PortState → ℕ → List Literal → Kind → Entry
-entry_of s number lits kind = Add (record { ring = s.ring; number = number; lits = lits; kind = kind })
+entry_of s number lits kind = Add (record { ring = s.ring; number = number; lits = lits; kind = kind; hints = [] })
 
 -- no clause is held at the address, or waits there
 pub record IsFreeAddress (s : PortState) (a : ℕ) : Type 0 where

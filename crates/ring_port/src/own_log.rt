@@ -1,14 +1,13 @@
 // The log of a ring that writes alone: where its lines go, and its journal.
 // The port in memory, which the program never runs: tests search over it, with every byte known to contracts.
 ghost use Rattle.std.specs.Prelude.{◌≡◌, ◌<◌, ◌≤◌, [], false, true, None, Some, OnOk, IfErr};
-ghost use Rattle.rup_model.specs.Log.{lits_of};
-ghost use Rattle.ring_port.specs.OwnLog.{IsAddition, WasPut, WasAdded, WasDeleted, WasReduced, own_entry};
+ghost use Rattle.ring_port.specs.OwnLog.{WasAdded, WasDeleted, WasReduced, noted, stop_of};
 ghost use Rattle.ring_port.specs.Port.{is_usable};
 
 use crate::stops::PortStop;
 use drat_text::{LineOut, LineStop};
-use rup_model::{Addition, Entry, Kind};
-use sat_words::{Line, Lits, MAX_ENTRIES, NoRoom};
+use rup_model::{Addition, ClauseNumbers, Entry, Kind};
+use sat_words::{Lit, Lits, MAX_ENTRIES, NoRoom};
 use std::alloc::Global;
 use std::marker::Model;
 
@@ -48,20 +47,24 @@ impl<L: LineOut> Model for OwnLog<L> {
     ghost invariant = { λ p. is_usable p.refused ≡ not (L.told p.output).spent };
 }
 
-/// The entry of a line that adds a clause.
-fn entry_of(line: Line, number: u64, kind: Kind) -> Entry
-    requires { IsAddition line }
-    ensures { result ≡ own_entry number (lits_of line) kind }
+/// What a port answers to a line that was not put.
+fn stop_of(stop: LineStop) -> PortStop
+    ensures { result ≡ stop_of stop }
 {
-    match line {
-        Line::Add(lits) => Entry::Add(Addition {
-            ring: RING,
-            number,
-            lits,
-            kind,
-        }),
-        // `IsAddition`: the line adds a clause
-        Line::Del(_) => unreachable!(),
+    match stop {
+        LineStop::ProofFault => PortStop::ProofFault,
+        LineStop::Full => NO_ENTRY,
+        LineStop::Memory => PortStop::Memory,
+    }
+}
+
+/// The last answer that refused, once a line was not put.
+fn noted(refused: Option<PortStop>, stop: LineStop) -> Option<PortStop>
+    ensures { result ≡ noted refused stop }
+{
+    match stop {
+        LineStop::ProofFault | LineStop::Full => Some(stop_of(stop)),
+        LineStop::Memory => refused,
     }
 }
 
@@ -108,49 +111,53 @@ impl<L: LineOut> OwnLog<L> {
         false
     }
 
-    /// Puts the line, unless the log is ended. Answers its number.
-    fn put(&mut self, line: &Line) -> Result<u64, PortStop>
-        requires usable { is_usable self.old.refused ≡ true }
-        ensures { WasPut self.old self.new line.now result }
-    {
-        if self.is_over() {
-            return Err(PortStop::Ended);
-        }
-        match self.output.put(line) {
-            Ok(number) => Ok(number),
-            Err(LineStop::ProofFault) => {
-                self.refused = Some(PortStop::ProofFault);
-                Err(PortStop::ProofFault)
-            }
-            Err(LineStop::Full) => {
-                self.refused = Some(NO_ENTRY);
-                Err(NO_ENTRY)
-            }
-            Err(LineStop::Memory) => Err(PortStop::Memory),
-        }
-    }
-
-    /// Puts the line that adds the literals, and its entry, for which room was made. Answers its number.
-    pub(crate) fn add(&mut self, lits: Lits, kind: Kind) -> Result<u64, PortStop>
+    /// Puts the line that adds the literals, and its entry, for which room was made, unless the log is ended. Answers its number.
+    pub(crate) fn add(&mut self, alloc: Global, lits: Lits, kind: Kind) -> Result<u64, PortStop>
         requires usable { is_usable self.old.refused ≡ true }
         requires room { 1 ≤ self.old.room }
         ensures { WasAdded self.old self.new lits kind result }
     {
-        let line = Line::Add(lits);
-        let number = self.put(&line)?;
-        self.mine.push_reserved(entry_of(line, number, kind));
-        Ok(number)
+        if self.is_over() {
+            return Err(PortStop::Ended);
+        }
+        match self.output.add(lits.as_slice(), &[]) {
+            Ok(number) => {
+                self.mine.push_reserved(Entry::Add(Addition {
+                    ring: RING,
+                    number,
+                    lits,
+                    kind,
+                    hints: ClauseNumbers::none(alloc),
+                }));
+                Ok(number)
+            }
+            Err(stop) => {
+                self.refused = noted(self.refused, stop);
+                Err(stop_of(stop))
+            }
+        }
     }
 
-    /// Puts the line that deletes the clause with these literals and this number, and its entry, for which room was made.
-    pub(crate) fn delete(&mut self, lits: Lits, number: u64) -> Result<(), PortStop>
+    /// Puts the line that deletes the clause with these literals and this number, and its entry, for which room was made, unless
+    /// the log is ended.
+    pub(crate) fn delete(&mut self, lits: &[Lit], number: u64) -> Result<(), PortStop>
         requires usable { is_usable self.old.refused ≡ true }
         requires room { 1 ≤ self.old.room }
-        ensures { WasDeleted self.old self.new lits number result }
+        ensures { WasDeleted self.old self.new lits.now number result }
     {
-        self.put(&Line::Del(lits))?;
-        self.mine.push_reserved(Entry::Del { ring: RING, number });
-        Ok(())
+        if self.is_over() {
+            return Err(PortStop::Ended);
+        }
+        match self.output.del(number, lits) {
+            Ok(()) => {
+                self.mine.push_reserved(Entry::Del { ring: RING, number });
+                Ok(())
+            }
+            Err(stop) => {
+                self.refused = noted(self.refused, stop);
+                Err(stop_of(stop))
+            }
+        }
     }
 
     /// Adds the entry that the ring reduces its clauses, for which room was made and which has no line.

@@ -131,8 +131,8 @@ impl<L: LineOut> Port for PlainPort<L> {
         ensures loads { self.new.loads ≡ self.old.loads }
     {
         self.log.make_room()?;
-        self.log
-            .add(Lits::from_vec(Vec::new(self.alloc)), Kind::Derive)?;
+        let none = Lits::from_vec(Vec::new(self.alloc));
+        self.log.add(self.alloc, none, Kind::Derive)?;
         self.log.end();
         Ok(())
     }

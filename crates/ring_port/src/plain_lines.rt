@@ -58,7 +58,7 @@ impl<L: LineOut> PlainPort<L> {
         let Ok(lits) = Lits::from_slice(self.alloc, &[lit]) else {
             return Err(PortStop::Memory);
         };
-        self.log.add(lits, kind)?;
+        self.log.add(self.alloc, lits, kind)?;
         self.written.push_reserved(lit);
         self.last = last;
         self.tickets.use_for(kind);
@@ -89,7 +89,7 @@ impl<L: LineOut> PlainPort<L> {
             return Err(PortStop::Memory);
         };
         let number = self.store.first_head().number;
-        self.log.delete(Lits::from_vec(lits), number)?;
+        self.log.delete(lits.as_slice(), number)?;
         self.store.delete_first();
         Ok(())
     }
@@ -117,7 +117,7 @@ impl<L: LineOut> PlainPort<L> {
         let Ok(copy) = Lits::from_slice(self.alloc, lits) else {
             return Err(PortStop::Memory);
         };
-        let number = self.log.add(copy, kind)?;
+        let number = self.log.add(self.alloc, copy, kind)?;
         let c = self.store.push(lits, number, glue);
         let last = last_after(kind, self.last, c);
         self.last = last;

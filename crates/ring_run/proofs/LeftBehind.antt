@@ -1,5 +1,5 @@
 -- What vivification of a lemma leaves of a ring that rests.
-use Rattle.std.proofs.Common.{◌≡◌, ◌≢◌, ◌∙◌, ℕ, ◌-◌, ◌≤◌, min, true, false, List, [], ◌∷◌, ◌++◌, length, sym, subst, ap, arith, refl, inl, inr, Contains, IsSome, Some, None, append-nil}
+use Rattle.std.proofs.Common.{◌≡◌, ◌≢◌, ◌∙◌, ℕ, ◌-◌, ◌≤◌, min, true, false, List, [], ◌∷◌, ◌++◌, length, sym, subst, ap, arith, refl, inl, Contains, IsSome, Some, None, append-nil}
 use Rattle.std.specs.Option.{option_map_or}
 use Rattle.std.specs.declared.option.Option.{Option}
 use Rattle.sat_words.specs.Literal.{Literal}
@@ -14,7 +14,7 @@ use Rattle.ring_port.specs.Log.{KeepsLog}
 use Rattle.ring_port.specs.declared.stops.PortStop.{PortStop}
 use Rattle.ring_port.proofs.PlainLemmas.{dropped_others}
 use Rattle.ring_trail.specs.declared.step.TrailStep.{TrailStep}
-use Rattle.ring_trail.specs.TrailData.{TrailData, IsTrail, IsTrueOn, IsFalseOn, HasGrown, assigned}
+use Rattle.ring_trail.specs.TrailData.{TrailData, IsTrail, IsTrueOn, IsFalseOn, assigned}
 use Rattle.watch_prop.specs.WatchData.{WatchData, attached, without}
 use Rattle.watch_prop.specs.Watched.{Watched}
 use Rattle.watch_prop.specs.Propagation.{HasReasons, IsQuiet}
@@ -123,7 +123,7 @@ module _ (s m : PortState) (ring mid : Ring) (c : Cref) (p : IsResting s ring) (
         let clauses : HasClauses m (attached mid.watches) = clauses_left s m ring.watches mid.watches c (Some d) c z.attached_now p.search.clauses stay may.apart there b.start lately none
         (derived_units s m lits z.derived.number b z.derived.long distinct seen p.search.clauses.own.units) refused b.stop port in
         rests_again (search_left s m ring.trail ring.watches mid.watches ring.written p.search p.level clauses watched_then reasons_then b.vars b.opening seen)
-        (reductions_other s m (record { ring = s.ring; number = z.derived.number; lits = lits; kind = Derive }) b.ring b.mine) lately none
+        (reductions_other s m (record { ring = s.ring; number = z.derived.number; lits = lits; kind = Derive; hints = [] }) b.ring b.mine) lately none
     left_behind (Unit l) z open_unit =
         let b = became_behind s m ring.watches ring.trail.steps c p.search.clauses.port held may.glued (p.reduced, p.lately) stay may.apart log port mid.watches l z in
         let dropped_seen : m.seen ≡ z.middle.seen = ap (λ (x : PortState). x.seen) z.dropped.state in
@@ -138,7 +138,7 @@ module _ (s m : PortState) (ring mid : Ring) (c : Cref) (p : IsResting s ring) (
         let clauses : HasClauses m (attached mid.watches) = clauses_left s m ring.watches mid.watches c None c is p.search.clauses stay may.apart tt b.start lately none units refused b.stop port in
         let free = no_place ring.trail.steps l (left_open l z.left) (open_unit l refl) in
         let on : IsOn s.vars l = unit_on s m ring.watches ring.trail.steps c p.search.clauses.port held may.glued (p.reduced, p.lately) stay may.apart log port l z.left in
-        let reduced = reductions_other s m (record { ring = s.ring; number = z.wrote.number; lits = l ∷ []; kind = UnitLine }) b.ring b.mine in
+        let reduced = reductions_other s m (record { ring = s.ring; number = z.wrote.number; lits = l ∷ []; kind = UnitLine; hints = [] }) b.ring b.mine in
         record {
           reduced = omega (arith, reduced, p.reduced);
           search = λ shape. (
@@ -168,7 +168,7 @@ module _ (s m : PortState) (ring mid : Ring) (c : Cref) (p : IsResting s ring) (
       let now : attached new.watches ≡ without (attached ring.watches) c.address ++ d ∷ [] = ap (λ (x : Point). attached x.watches) w.0 ∙ z.attached_now in
       let b = shorter_behind s m ring.watches ring.trail.steps c p.search.clauses.port held may.glued (p.reduced, p.lately) stay may.apart log port mid.watches d z in
       let is : u ≡ m = ap (λ (x : Point). x.port) w.0 in
-      let x : Addition = record { ring = s.ring; number = z.derived.number; lits = left_lits; kind = Derive } in
+      let x : Addition = record { ring = s.ring; number = z.derived.number; lits = left_lits; kind = Derive; hints = [] } in
       record {
         others = others_stay s m ring.watches new.watches c (Some d) c now;
         held = λ a ne some. ap (λ (y : PortState). held_at y a) is ∙ stay a ne some;
@@ -178,7 +178,7 @@ module _ (s m : PortState) (ring mid : Ring) (c : Cref) (p : IsResting s ring) (
   left_others u new (Unit l) o z w =
       let now : attached new.watches ≡ without (attached ring.watches) c.address ++ [] = w.0.same_clauses ∙ z.attached_now ∙ sym (append-nil (without (attached ring.watches) c.address)) in
       let b = became_behind s m ring.watches ring.trail.steps c p.search.clauses.port held may.glued (p.reduced, p.lately) stay may.apart log port mid.watches l z in
-      let x : Addition = record { ring = s.ring; number = z.wrote.number; lits = l ∷ []; kind = UnitLine } in
+      let x : Addition = record { ring = s.ring; number = z.wrote.number; lits = l ∷ []; kind = UnitLine; hints = [] } in
       record {
         others = others_stay s m ring.watches new.watches c None c now;
         held = λ a ne some. held_same m u a w.0.lines.held ∙ stay a ne some;
@@ -197,7 +197,7 @@ module _ (s m : PortState) (ring mid : Ring) (c : Cref) (p : IsResting s ring) (
       let now : attached new.watches ≡ without (attached ring.watches) c.address ++ d ∷ [] = ap (λ (x : Point). attached x.watches) w.0 ∙ z.attached_now in
       let b = shorter_behind s m ring.watches ring.trail.steps c p.search.clauses.port held may.glued (p.reduced, p.lately) stay may.apart log port mid.watches d z in
       let is : u ≡ m = ap (λ (x : Point). x.port) w.0 in
-      let x : Addition = record { ring = s.ring; number = z.derived.number; lits = left_lits; kind = Derive } in
+      let x : Addition = record { ring = s.ring; number = z.derived.number; lits = left_lits; kind = Derive; hints = [] } in
       let apart : d.address ≢ c.address = λ e. none_both (held_at s d.address) (subst (λ (a : ℕ). IsSome (held_at s a)) (sym e) held) z.derived.free.not_held in
       let glue : ℕ = min (glue_at s c.address) (length left_lits - 1) in
       let there : held_at u d.address ≡ Some (holding_of d z.derived.number glue left_lits)

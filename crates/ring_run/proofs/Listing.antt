@@ -115,7 +115,7 @@ pub listed_learned : (s u w : PortState) (old new : Ring) (lits : List Literal) 
 listed_learned s u w old new lits glue (Some c) clauses k start lately lists now count kept alike grown noted bound p =
     let items : new.lemmas.items ≡ old.lemmas.items ++ c ∷ [] = lists.lemmas in
     let cs = attached old.watches in
-    let x : Addition = record { ring = s.ring; number = k.number; lits = lits; kind = Learn } in
+    let x : Addition = record { ring = s.ring; number = k.number; lits = lits; kind = Learn; hints = [] } in
     let ring_u : u.ring ≡ s.ring = ap (λ (y : PortState). y.ring) k.state in
     let mine_u : u.mine ≡ s.mine ++ Add x ∷ [] = ap (λ (y : PortState). y.mine) k.state in
     let stay : (d : Cref) → In d old.lemmas.items → held_at u d.address ≡ held_at s d.address = λ d m. kept d.address (held_before s u cs old.lemmas.items lits glue c clauses k p.member d m) in
@@ -146,7 +146,7 @@ listed_learned s u w old new lits glue (Some c) clauses k start lately lists now
 listed_learned s u w old new lits glue None clauses k start lately lists now count kept alike grown noted bound p =
     let items : new.lemmas.items ≡ old.lemmas.items = lists.lemmas ∙ append-nil old.lemmas.items in
     let same : attached new.watches ≡ attached old.watches = now ∙ append-nil (attached old.watches) in
-    let x : Addition = record { ring = s.ring; number = k.wrote.number; lits = k.lit ∷ []; kind = Learn } in
+    let x : Addition = record { ring = s.ring; number = k.wrote.number; lits = k.lit ∷ []; kind = Learn; hints = [] } in
     let ring_u : u.ring ≡ s.ring = ap (λ (y : PortState). y.ring) k.wrote.state in
     let mine_u : u.mine ≡ s.mine ++ Add x ∷ [] = ap (λ (y : PortState). y.mine) k.wrote.state in
     let stay : (d : Cref) → In d old.lemmas.items → held_at w d.address ≡ held_at s d.address

@@ -64,7 +64,7 @@ not_among r x e = ap (λ (b : Bool). map (λ (y : Addition). y.lits) (cond b (x 
 same_lemmas : (s : PortState) (number : ℕ) (lits : List Literal) (kind : Kind) → is_learn kind ≡ false → learned s.ring (s.mine ++ entry_of s number lits kind ∷ []) ≡ learned s.ring s.mine
 same_lemmas s number lits kind other =
     learned-append s.ring s.mine (entry_of s number lits kind ∷ [])
-    ∙ ap (λ (G : List (List Literal)). learned s.ring s.mine ++ G) (not_among s.ring (record { ring = s.ring; number = number; lits = lits; kind = kind }) other)
+    ∙ ap (λ (G : List (List Literal)). learned s.ring s.mine ++ G) (not_among s.ring (record { ring = s.ring; number = number; lits = lits; kind = kind; hints = [] }) other)
     ∙ append-nil (learned s.ring s.mine)
 
 nothing_added : (s u : PortState) (number : ℕ) (lits : List Literal) (kind : Kind) → is_learn kind ≡ false → u.shared ≡ s.shared → u.polled ≡ s.polled → u.polls ≡ s.polls → u.polls_after ≡ s.polls_after → min s.caught_up (2 ^ 64 - 1) ≤ u.caught_up → u.ring ≡ s.ring → u.rings ≡ s.rings → u.depth ≡ s.depth
@@ -141,7 +141,7 @@ among r x same_ring e = ap (λ (b : Bool). map (λ (y : Addition). y.lits) (cond
 lemmas_more : (s u : PortState) (number : ℕ) (lits : List Literal) → u.ring ≡ s.ring → u.mine ≡ s.mine ++ entry_of s number lits Learn ∷ [] → learned u.ring u.mine ≡ learned s.ring s.mine ++ lits ∷ []
 lemmas_more s u number lits ring mine =
     ap (λ (r : ℕ). learned r u.mine) ring ∙ ap (learned s.ring) mine ∙ learned-append s.ring s.mine (entry_of s number lits Learn ∷ [])
-    ∙ ap (λ (G : List (List Literal)). learned s.ring s.mine ++ G) (among s.ring (record { ring = s.ring; number = number; lits = lits; kind = Learn }) refl refl)
+    ∙ ap (λ (G : List (List Literal)). learned s.ring s.mine ++ G) (among s.ring (record { ring = s.ring; number = number; lits = lits; kind = Learn; hints = [] }) refl refl)
 
 count_one : (p : List Literal → Bool) (G : List (List Literal)) (c : List Literal) → length (filter p (G ++ c ∷ [])) ≡ length (filter p G) + cond (p c) 1 0
 count_one p G c =

@@ -170,7 +170,7 @@ none_learned r x e = ap (λ (b : Bool). map (λ (y : Addition). y.lits) (cond b 
 -- an entry of another kind
 pub recent_other : (s u : PortState) (number : ℕ) (lits : List Literal) (kind : Kind) → is_learn kind ≡ false → u.ring ≡ s.ring → u.mine ≡ s.mine ++ entry_of s number lits kind ∷ [] → recent u.ring u.mine ≡ recent s.ring s.mine
 recent_other s u number lits kind other ring mine =
-    let x : Addition = record { ring = s.ring; number = number; lits = lits; kind = kind } in
+    let x : Addition = record { ring = s.ring; number = number; lits = lits; kind = kind; hints = [] } in
     ap (λ (r : ℕ). recent r u.mine) ring ∙ ap (recent s.ring) mine ∙ recent_added s.ring s.mine x
     ∙ ap (λ (cs : List (List Literal)). recent s.ring s.mine ++ cs) (none_learned s.ring x other) ∙ append-nil (recent s.ring s.mine)
 
@@ -242,7 +242,7 @@ unit_goes_on start s u n l p on units unseen w log port =
     }
   where
     no_lemma : (r number : ℕ) (l : Literal) → n ≡ n + length (learned s.ring (entry_of s number (l ∷ []) UnitLine ∷ []))
-    no_lemma r number l = omega (arith, not_learned s.ring (record { ring = s.ring; number = number; lits = l ∷ []; kind = UnitLine }) refl)
+    no_lemma r number l = omega (arith, not_learned s.ring (record { ring = s.ring; number = number; lits = l ∷ []; kind = UnitLine; hints = [] }) refl)
 
 -- a refusal changes nothing but what it notes
 pub record Unchanged (s u : PortState) : Type 0 where
@@ -453,11 +453,11 @@ learned_goes_on : (start s u : PortState) (n number : ℕ) (lits : List Literal)
     → u.mine ≡ s.mine ++ entry_of s number lits Learn ∷ [] → u.given ≡ s.given → AddsGlued s u → SeesMore s u → IsHeldOrSeen u lits → u.stop ≡ s.stop → u.refused ≡ s.refused → KeepsHeld s u → IsPort u → GoesOn start u (n + 1)
 learned_goes_on start s u n number lits p used stays clause fresh some is given glued more own stop refused kept port =
     let e : Entry = entry_of s number lits Learn in
-    let x : Addition = record { ring = s.ring; number = number; lits = lits; kind = Learn } in
+    let x : Addition = record { ring = s.ring; number = number; lits = lits; kind = Learn; hints = [] } in
     record {
       runs = runs_adds start s u n (n + 1) e p.runs stays kept is
           (p.runs.stays.ring, subst (λ (v : ℕ). All (IsOn v) lits) p.runs.stays.vars clause.on, some)
-          (omega (arith, one_learned s.ring (record { ring = s.ring; number = number; lits = lits; kind = Learn }) refl refl)) (λ learns. fresh.unlisted) given (λ is_line. absurd (false≢true is_line)) tt glued (lately_more s u x stays.ring is kept more own p.runs.lately) port;
+          (omega (arith, one_learned s.ring (record { ring = s.ring; number = number; lits = lits; kind = Learn; hints = [] }) refl refl)) (λ learns. fresh.unlisted) given (λ is_line. absurd (false≢true is_line)) tt glued (lately_more s u x stays.ring is kept more own p.runs.lately) port;
       draws = (
           let none : u.ticket ≡ false = ap (λ (t : Bool × ℕ × ℕ). t.0) used in
           let found : u.found ≡ s.found = ap (λ (t : Bool × ℕ × ℕ). t.1) used in
@@ -505,7 +505,7 @@ empty_refutes start s u n p w log port =
     record {
       runs = runs_adds start s u n n e p.runs stays (λ a h. held_same s u a (ap (λ (x : PortState). x.held) w.state)) (ap (λ (x : PortState). x.mine) w.state)
           (p.runs.stays.ring, All-nil (IsOn start.vars), inl refl)
-          (omega (arith, not_learned s.ring (record { ring = s.ring; number = w.number; lits = []; kind = Derive }) refl)) (λ learns. absurd (false≢true learns))
+          (omega (arith, not_learned s.ring (record { ring = s.ring; number = w.number; lits = []; kind = Derive; hints = [] }) refl)) (λ learns. absurd (false≢true learns))
           (ap (λ (x : PortState). x.given) w.state) (λ is_line. absurd (false≢true is_line)) (λ two. absurd (omega (arith, two))) (glued_same s u (ap (λ (x : PortState). x.held) w.state))
           (lately_as s u (recent_other s u w.number [] Derive refl (ap (λ (x : PortState). x.ring) w.state) (ap (λ (x : PortState). x.mine) w.state)) (λ a h. held_same s u a (ap (λ (x : PortState). x.held) w.state)) (sees_same s u (ap (λ (x : PortState). x.seen) w.state)) p.runs.lately) port;
       cause = (ap (λ (x : PortState). x.ended) w.state, usable_none u (ap (λ (x : PortState). x.refused) w.state ∙ p.refused));
@@ -519,7 +519,7 @@ empty_refutes start s u n p w log port =
 -- a lemma
 pub recent_lemma : (s u : PortState) (number : ℕ) (lits : List Literal) → u.ring ≡ s.ring → u.mine ≡ s.mine ++ entry_of s number lits Learn ∷ [] → length (recent u.ring u.mine) ≡ length (recent s.ring s.mine) + 1
 recent_lemma s u number lits ring mine =
-    let x : Addition = record { ring = s.ring; number = number; lits = lits; kind = Learn } in
+    let x : Addition = record { ring = s.ring; number = number; lits = lits; kind = Learn; hints = [] } in
     let is = ap (λ (r : ℕ). length (recent r u.mine)) ring ∙ ap (λ (J : List Entry). length (recent s.ring J)) mine ∙ ap (λ (cs : List (List Literal)). length cs) (recent_added s.ring s.mine x) in
     let both = length-append (recent s.ring s.mine) (learned s.ring (Add x ∷ [])) in
     let one = one_learned s.ring x refl refl in
@@ -556,7 +556,7 @@ wrote_by s u w p q = record {
 pub wrote_unit : (s u : PortState) (l : Literal) → WroteUnit s u l UnitLine s.last → KeepsLog s u → OnlyWrote s u
 wrote_unit s u l w log = record {
   recent = recent_other s u w.number (l ∷ []) UnitLine refl (ap (λ (x : PortState). x.ring) w.state) (ap (λ (x : PortState). x.mine) w.state);
-  reduced = reductions_other s u (record { ring = s.ring; number = w.number; lits = l ∷ []; kind = UnitLine }) (ap (λ (x : PortState). x.ring) w.state) (ap (λ (x : PortState). x.mine) w.state);
+  reduced = reductions_other s u (record { ring = s.ring; number = w.number; lits = l ∷ []; kind = UnitLine; hints = [] }) (ap (λ (x : PortState). x.ring) w.state) (ap (λ (x : PortState). x.mine) w.state);
   grown = (entry_of s w.number (l ∷ []) UnitLine ∷ [], ap (λ (x : PortState). x.mine) w.state);
   stays = stays_unit s u l UnitLine s.last w log;
   taken = ap (λ (x : PortState). x.taken) w.state;

@@ -209,7 +209,7 @@ left_clause s v steps c port held =
 -- a shorter clause was derived
 derived_runs : (start s u : PortState) (n number : ℕ) (lits : List Literal) → GoesOn start s n → Behind s u (entry_of s number lits Derive) → KeepsLog s u → HoldsStart u → IsClause s.vars lits → 2 ≤ length lits → (1 ≤ reductions s.ring s.mine) × (recent s.ring s.mine ≡ []) → AddsGlued s u → IsPort u → Runs start u n
 derived_runs start s u n number lits p b log held clause long time glued port =
-    let x : Addition = record { ring = s.ring; number = number; lits = lits; kind = Derive } in
+    let x : Addition = record { ring = s.ring; number = number; lits = lits; kind = Derive; hints = [] } in
     runs_entry start s u n n (entry_of s number lits Derive) p.runs (behind_stays s u (entry_of s number lits Derive) b log) held b.mine
     (p.runs.stays.ring, subst (λ (v : ℕ). All (IsOn v) lits) p.runs.stays.vars clause.on, inr long)
     (omega (arith, not_learned s.ring x refl)) (λ learns. absurd (false≢true learns)) b.given (λ is_line. absurd (false≢true is_line)) (λ two. time) glued (lately_none u (recent_other s u number lits Derive refl b.ring b.mine ∙ time.1)) port
@@ -217,7 +217,7 @@ derived_runs start s u n number lits p b log held clause long time glued port =
 -- the line of a unit was written
 unit_runs : (start s u : PortState) (n number : ℕ) (l : Literal) → GoesOn start s n → Behind s u (entry_of s number (l ∷ []) UnitLine) → KeepsLog s u → HoldsStart u → IsOn s.vars l → UnitsSeen s → has s.seen l ≡ false → recent s.ring s.mine ≡ [] → AddsGlued s u → IsPort u → Runs start u n
 unit_runs start s u n number l p b log held on units unseen none glued port =
-    let x : Addition = record { ring = s.ring; number = number; lits = l ∷ []; kind = UnitLine } in
+    let x : Addition = record { ring = s.ring; number = number; lits = l ∷ []; kind = UnitLine; hints = [] } in
     runs_entry start s u n n (entry_of s number (l ∷ []) UnitLine) p.runs (behind_stays s u (entry_of s number (l ∷ []) UnitLine) b log) held b.mine
     (p.runs.stays.ring, subst (λ (v : ℕ). All (IsOn v) (l ∷ [])) p.runs.stays.vars (All-cons (IsOn s.vars) l [] on (All-nil (IsOn s.vars))), refl)
     (omega (arith, not_learned s.ring x refl)) (λ learns. absurd (false≢true learns)) b.given (new_line s l number units p.runs.port unseen) tt glued (lately_none u (recent_other s u number (l ∷ []) UnitLine refl b.ring b.mine ∙ none)) port
@@ -335,13 +335,13 @@ module _ (s u : PortState) (v : WatchData) (steps : List TrailStep) (c : Cref) (
             )
         by m (inr (inl k)) r =
             let b = same_behind s m u (entry_of s k.1.number left Derive) (added_behind s m left (min (glue_at s c.address) (length left - 1)) k.0 k.1) (refused_same m r) in
-            (behind_nothing s u (record { ring = s.ring; number = k.1.number; lits = left; kind = Derive }) b refl, b.looks, b.start)
+            (behind_nothing s u (record { ring = s.ring; number = k.1.number; lits = left; kind = Derive; hints = [] }) b refl, b.looks, b.start)
         by m (inr (inr k)) r =
             let b = same_behind s m u (entry_of s k.2.number (k.0 ∷ []) UnitLine) (unit_behind s m k.0 s.last k.2) (refused_same m r) in
-            (behind_nothing s u (record { ring = s.ring; number = k.2.number; lits = k.0 ∷ []; kind = UnitLine }) b refl, b.looks, b.start)
+            (behind_nothing s u (record { ring = s.ring; number = k.2.number; lits = k.0 ∷ []; kind = UnitLine; hints = [] }) b refl, b.looks, b.start)
 
 pub shorter_nothing : (s u : PortState) (lits : List Literal) (number : ℕ) → Behind s u (entry_of s number lits Derive) → OffersNothing s u
-shorter_nothing s u lits number b = behind_nothing s u (record { ring = s.ring; number = number; lits = lits; kind = Derive }) b refl
+shorter_nothing s u lits number b = behind_nothing s u (record { ring = s.ring; number = number; lits = lits; kind = Derive; hints = [] }) b refl
 
 pub became_nothing : (s u : PortState) (l : Literal) (number : ℕ) → Behind s u (entry_of s number (l ∷ []) UnitLine) → OffersNothing s u
-became_nothing s u l number b = behind_nothing s u (record { ring = s.ring; number = number; lits = l ∷ []; kind = UnitLine }) b refl
+became_nothing s u l number b = behind_nothing s u (record { ring = s.ring; number = number; lits = l ∷ []; kind = UnitLine; hints = [] }) b refl

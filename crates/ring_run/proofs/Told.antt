@@ -52,7 +52,7 @@ units_one s u l w =
       entries = e ∷ [];
       units = All-cons (IsLineOfUnit s.ring) e [] (refl, refl, refl) (All-nil (IsLineOfUnit s.ring));
       mine = mine;
-      sees = λ k. w.sees k ∙ ap (λ (b : Bool). has s.seen k || b) (sym (adds_one s.ring (record { ring = s.ring; number = w.number; lits = l ∷ []; kind = UnitLine }) l k refl refl));
+      sees = λ k. w.sees k ∙ ap (λ (b : Bool). has s.seen k || b) (sym (adds_one s.ring (record { ring = s.ring; number = w.number; lits = l ∷ []; kind = UnitLine; hints = [] }) l k refl refl));
       looked = w.looked;
       idle = λ none. absurd (some_line e [] none);
       state = w.state ∙ ap (λ (J : List Entry). record s { seen = u.seen; kept = u.kept; caught_up = u.caught_up; mine = J; output = u.output }) (sym mine);

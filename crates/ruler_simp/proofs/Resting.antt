@@ -9,6 +9,8 @@ use Rattle.std.proofs.lemmas.Bool.Decides.{nat_tests}
 use Rattle.std.proofs.lemmas.List.Elements.{All-append}
 use Rattle.std.proofs.lemmas.List.Folds.{list_any-append}
 use Rattle.std.specs.List.Sorted.{IsStrictlySortedBy}
+use Rattle.std.proofs.lemmas.Bool.{true≢false}
+use Rattle.sat_words.specs.Formats.{has_hints}
 use Rattle.sat_words.specs.Literal.{Literal, IsOn}
 use Rattle.sat_words.specs.Clause.{has, same_set, is_empty, distinct_lits, clause_of}
 use Rattle.sat_words.specs.FormulaData.{FormulaData}
@@ -106,10 +108,11 @@ module _ (F : List (List Literal)) (K : List Entry) (vars : ℕ) (cells : List C
     (starts : map start_of cells ≡ (program_opening F K).starts)
     (told : All (λ l. is_told F K l ≡ true) units) (are : (l : Literal) → has units l ≡ has (program_opening F K).units l) (distinct : distinct_lits units ≡ true)
     (formula_on : All (All (IsOn vars)) F) (added_on : All (All (IsOn vars)) (added K)) (stack_on : All (IsFixOn vars) stack)
-    (entries : out.entries ≡ length K) (last : (book F K).next ≡ out.last + 1) where
+    (entries : out.entries ≡ length K) (last : (book F K).next ≡ out.last + 1) (plain : has_hints out.format ≡ false) where
   pub resumes : Resumes F vars cells units stack out K
   resumes = record {
     sound = sound;
+    hinted = λ h. absurd (true≢false (sym h ∙ plain));
     going = list_any-append is_empty F (added K) ∙ (λ i. none i || unended i);
     numbers = own_numbers cells (subst AreAscending (sym starts) (program_ascends F K));
     held = start_held F K cells starts;
@@ -120,15 +123,16 @@ module _ (F : List (List Literal)) (K : List Entry) (vars : ℕ) (cells : List C
     told = told;
     every = λ l t. are l ∙ opened_unit F K l t;
     distinct = distinct;
+    units_held = λ h. absurd (true≢false (sym h ∙ plain));
     on = All-append (All (IsOn vars)) F (added K) formula_on added_on;
     stack_on = stack_on;
     entries = entries;
     last = last;
   }
 
-pub left_resumes : (F : FormulaData) (schedule : Schedule) (old new : LineState) (s : Simplified) → All (All (IsOn F.vars)) F.clauses → (was : Ruled F schedule old new (Ok (LeftOver s)))
+pub left_resumes : (F : FormulaData) (schedule : Schedule) (old new : LineState) (s : Simplified) → All (All (IsOn F.vars)) F.clauses → (was : Ruled F schedule old new (Ok (LeftOver s))) → has_hints new.format ≡ false
     → Resumes F.clauses s.vars s.start.items s.units.items s.stack new was.journal
-left_resumes F schedule old new s on was =
+left_resumes F schedule old new s on was plain =
     let h = was.answer.0 in
     let out : new ≡ was.work.output = was.output in
     let wide : F.vars ≤ s.vars = (let v = was.has_vars in let m = was.more in omega arith) in
@@ -139,10 +143,11 @@ left_resumes F schedule old new s on was =
     h.on.stack
     (ap (λ (x : LineState). x.entries) out ∙ was.stands.lines.entries)
     (was.stands.lines.last ∙ ap (λ (x : LineState). x.last + 1) (sym out))
+    plain
 
-pub left_resumes_again : (F : List (List Literal)) (schedule : Schedule) (start : WorkState) (new : LineState) (s : Simplified) (was : RuledAgain F schedule start new (Ok (LeftOver s))) (J : List Entry) → ResumesAs F start J
+pub left_resumes_again : (F : List (List Literal)) (schedule : Schedule) (start : WorkState) (new : LineState) (s : Simplified) (was : RuledAgain F schedule start new (Ok (LeftOver s))) (J : List Entry) → ResumesAs F start J → has_hints new.format ≡ false
     → Resumes F s.vars s.start.items s.units.items s.stack new (J ++ was.entries)
-left_resumes_again F schedule start new s was J r =
+left_resumes_again F schedule start new s was J r plain =
     let h = (was.answer J r).0 in
     let st = was.stands J r in
     let out : new ≡ was.work.output = was.output in
@@ -160,3 +165,4 @@ left_resumes_again F schedule start new s was J r =
     h.on.stack
     (ap (λ (x : LineState). x.entries) out ∙ st.lines.entries)
     (st.lines.last ∙ ap (λ (x : LineState). x.last + 1) (sym out))
+    plain

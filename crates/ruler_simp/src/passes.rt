@@ -1,5 +1,6 @@
 // One simplifier of those that a round has.
-ghost use Rattle.std.specs.Prelude.{◌≡◌, false};
+ghost use Rattle.std.specs.Prelude.{◌≡◌, true, false};
+ghost use Rattle.sat_words.specs.Formats.{has_hints};
 ghost use Rattle.simp_base.specs.WorkState.{IsWork};
 ghost use Rattle.simp_base.specs.Log.{GrowsLog};
 ghost use Rattle.ruler_simp.specs.Passes.{Ends, adds_variables};
@@ -23,11 +24,12 @@ pub enum Simplifier {
 }
 
 impl Simplifier {
-    /// Runs the simplifier until nothing is left for it to do. After an error the work serves only to give the line output
+    /// Runs the simplifier until nothing is left for it to do. What adds variables asks that the proof has no hints. After an error the work serves only to give the line output
     /// back.
     pub(crate) fn run<L: LineOut>(self, work: &mut Work<L>) -> Result<Run, LineStop>
         requires unspent { work.old.output.spent ≡ false }
         requires going { work.old.ended ≡ false }
+        requires plain { adds_variables self ≡ true → has_hints work.old.output.format ≡ false }
         ensures ends { Ends self work.old work.new result }
         ensures log { GrowsLog work.old work.new }
         ensures vars { adds_variables self ≡ false → work.new.vars ≡ work.old.vars }

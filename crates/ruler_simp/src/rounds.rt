@@ -3,9 +3,11 @@
 // What one of them leaves may give another one work: a unit shortens clauses, a shorter clause may be one of two literals,
 // and what replaces a clause may be contained in another one. So they run in rounds. A round that writes no line has
 // changed no clause, so that the next one would not either.
-ghost use Rattle.std.specs.Prelude.{◌≡◌, false, Contains};
+ghost use Rattle.std.specs.Prelude.{◌≡◌, true, false, Contains};
+ghost use Rattle.std.specs.List.{list_any};
+ghost use Rattle.sat_words.specs.Formats.{has_hints};
 ghost use Rattle.simp_base.specs.WorkState.{IsWork};
-ghost use Rattle.ruler_simp.specs.Passes.{WereRun, round_passes};
+ghost use Rattle.ruler_simp.specs.Passes.{WereRun, adds_variables, round_passes};
 ghost use Rattle.ruler_simp.specs.Rounds.{WereRounds, WasSimplified};
 
 use crate::passes::Simplifier;
@@ -17,7 +19,7 @@ use simp_base::{Run, Work};
 pub struct Schedule {
     /// How many rounds the simplifiers may get; in none, units alone are propagated.
     pub rounds: u32,
-    /// Whether variables are added in each round.
+    /// Whether variables are added in each round. A proof with hints has none.
     pub additions: bool,
 }
 
@@ -25,6 +27,7 @@ pub struct Schedule {
 fn run_all<L: LineOut>(work: &mut Work<L>, passes: &[Simplifier]) -> Result<Run, LineStop>
     requires unspent { work.old.output.spent ≡ false }
     requires going { work.old.ended ≡ false }
+    requires plain { list_any adds_variables passes.now ≡ true → has_hints work.old.output.format ≡ false }
     requires work { IsWork work.old }
     ensures ran { WereRun passes.now work.old work.new result }
     ensures work { IsWork work.new }
@@ -44,6 +47,7 @@ fn run_all<L: LineOut>(work: &mut Work<L>, passes: &[Simplifier]) -> Result<Run,
 fn run_round<L: LineOut>(work: &mut Work<L>, additions: bool) -> Result<Run, LineStop>
     requires unspent { work.old.output.spent ≡ false }
     requires going { work.old.ended ≡ false }
+    requires plain { additions ≡ true → has_hints work.old.output.format ≡ false }
     requires work { IsWork work.old }
     ensures ran { WereRun (round_passes additions) work.old work.new result }
     ensures work { IsWork work.new }
@@ -78,6 +82,7 @@ fn run_round<L: LineOut>(work: &mut Work<L>, additions: bool) -> Result<Run, Lin
 fn run_rounds<L: LineOut>(work: &mut Work<L>, schedule: Schedule) -> Result<Run, LineStop>
     requires unspent { work.old.output.spent ≡ false }
     requires going { work.old.ended ≡ false }
+    requires plain { schedule.additions ≡ true → has_hints work.old.output.format ≡ false }
     requires work { IsWork work.old }
     ensures ran { WereRounds schedule.additions schedule.rounds work.old work.new result }
     ensures work { IsWork work.new }
@@ -102,6 +107,7 @@ fn run_rounds<L: LineOut>(work: &mut Work<L>, schedule: Schedule) -> Result<Run,
 pub(crate) fn run<L: LineOut>(work: &mut Work<L>, schedule: Schedule) -> Result<Run, LineStop>
     requires unspent { work.old.output.spent ≡ false }
     requires going { work.old.ended ≡ false }
+    requires plain { schedule.additions ≡ true → has_hints work.old.output.format ≡ false }
     requires work { IsWork work.old }
     ensures ran { WasSimplified schedule work.old work.new result }
     ensures work { IsWork work.new }

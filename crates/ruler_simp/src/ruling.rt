@@ -1,6 +1,7 @@
 // The calls: a formula is simplified in rounds, or what is alive after the lines of a search, and what is left then is taken apart
 // for the search.
-ghost use Rattle.std.specs.Prelude.{◌≡◌, false, length, All};
+ghost use Rattle.std.specs.Prelude.{◌≡◌, true, false, length, All};
+ghost use Rattle.sat_words.specs.Formats.{has_hints};
 ghost use Rattle.sat_words.specs.Literal.{IsOn};
 ghost use Rattle.simp_base.specs.WorkState.{resumed};
 ghost use Rattle.simp_base.specs.Resumed.{CanResume};
@@ -81,6 +82,7 @@ pub fn simplify<L: LineOut>(
     output: L,
 ) -> (Result<Outcome, LineStop>, L)
     requires unspent { (L.told output).spent ≡ false }
+    requires plain { schedule.additions ≡ true → has_hints (L.told output).format ≡ false }
     requires blank { (L.told output).entries ≡ 0 }
     requires last { (L.told output).last ≡ length formula.now.clauses }
     requires on { All (All (IsOn formula.now.vars)) formula.now.clauses }
@@ -113,6 +115,7 @@ pub fn again<L: LineOut>(
     output: L,
 ) -> (Result<Outcome, LineStop>, L)
     requires unspent { (L.told output).spent ≡ false }
+    requires plain { schedule.additions ≡ true → has_hints (L.told output).format ≡ false }
     requires resumes { CanResume formula.now.clauses vars clauses.items units.items stack (L.told output) }
     requires entries { end.entries ≡ (L.told output).entries }
     requires last { end.last ≡ (L.told output).last }

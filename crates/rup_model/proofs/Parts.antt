@@ -13,8 +13,7 @@ use Rattle.rup_model.specs.declared.journal.Kind.TheVariants.{Ruler, Learn, Deri
 use Rattle.rup_model.specs.declared.journal.Entry.{Entry}
 use Rattle.rup_model.specs.declared.journal.Entry.TheVariants.{Add, Del, Reduce, Round}
 use Rattle.rup_model.specs.Journal.{reduction, ring_of, round_of, additions, is_learn, learned, is_ring, recent_after, recent, IsSpaced}
-use Rattle.rup_model.specs.Opening.{is_ruler, is_rulers, Opening, IsNew}
-use Rattle.rup_model.specs.Spent.{ruler_part, rings_part}
+use Rattle.rup_model.specs.Opening.{is_ruler, is_rulers, Opening, IsNew, ruler_part, rings_part}
 
 -- Where it ends
 

@@ -12,8 +12,7 @@ use Rattle.rup_model.specs.declared.journal.Round.{Round as RoundStart}
 use Rattle.rup_model.specs.declared.journal.Entry.{Entry}
 use Rattle.rup_model.specs.declared.journal.Entry.TheVariants.{Add, Del, Reduce, Round}
 use Rattle.rup_model.specs.Journal.{respelled, book, lines, learned, recent, fresh, is_told}
-use Rattle.rup_model.specs.Opening.{program_opening, is_new}
-use Rattle.rup_model.specs.Spent.{ruler_part, rings_part}
+use Rattle.rup_model.specs.Opening.{program_opening, is_new, ruler_part, rings_part}
 
 abbrev pos : ℕ → Literal
 pos v = record { var = v; neg = false }
@@ -22,7 +21,7 @@ abbrev minus : ℕ → Literal
 minus v = record { var = v; neg = true }
 
 abbrev adds : ℕ → ℕ → Kind → List Literal → Entry
-adds r n k c = Add (record { ring = r; number = n; lits = c; kind = k })
+adds r n k c = Add (record { ring = r; number = n; lits = c; kind = k; hints = [] })
 
 -- three clauses, all of which hold if 2 is true
 abbrev three : List (List Literal)

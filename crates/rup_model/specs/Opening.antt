@@ -1,5 +1,5 @@
--- Openings: what the rings start from, once the ruler is done.
-use Rattle.std.specs.Prelude.{◌≡◌, ℕ, ◌≤◌, Bool, true, false, not, ◌&&◌, ◌||◌, ◌==◌, nat_eq, List, [], ◌∷◌, ◌++◌, map, length, Option, Some, None, is_none, if◌then◌else◌, IfSome}
+-- Openings: what the rings start from after a journal, the ruler's or one with rounds of the rings.
+use Rattle.std.specs.Prelude.{◌≡◌, ℕ, ◌≤◌, Bool, true, false, not, ◌&&◌, ◌||◌, ◌==◌, nat_eq, List, [], ◌∷◌, ◌++◌, map, length, drop, take_while, Option, Some, None, is_none, if◌then◌else◌, IfSome}
 use Rattle.std.specs.List.{list_any, list_all, All, IsDistinct, filter, filter_map, range_with_len}
 use Rattle.std.specs.List.Sorted.{IsStrictlySortedBy}
 use Rattle.std.specs.Ordering.{nat_cmp}
@@ -27,6 +27,14 @@ is_ruler UnitLine = false
 abbrev pub is_rulers : Entry → Bool
 is_rulers e = (ring_of e == RULER_RING) && (list_all (λ x. is_ruler x.kind) (additions (e ∷ [])) && (is_none (reduction e) && is_none (round_of e)))
 
+-- the ruler's entries at the front
+abbrev pub ruler_part : List Entry → List Entry
+ruler_part J = take_while is_rulers J
+
+-- the entries after them
+abbrev pub rings_part : List Entry → List Entry
+rings_part J = drop (length (ruler_part J)) J
+
 -- a journal that the ruler may leave
 pub record IsRulersPart (F : List (List Literal)) (J0 : List Entry) : Type 0 where
   pub rulers : All (λ e. is_rulers e ≡ true) J0
@@ -41,7 +49,7 @@ pub record Start : Type 0 where
   pub number : ℕ
   pub lits : List Literal
 
--- the ruler's journal, the start clauses and the units that are listed from the start
+-- the journal before, the start clauses and the units that are listed from the start
 pub record Opening : Type 0 where
   pub journal : List Entry
   pub starts : List Start
@@ -97,7 +105,7 @@ abbrev pub only_literal : List Literal → Option Literal
 only_literal [] = None
 only_literal (l ∷ c) = if just_one (l ∷ c) then Some l else None
 
--- all clauses of two literals or more and without opposites that are alive after the ruler's journal, each copy by its
+-- all clauses of two literals or more and without opposites that are alive after the journal, each copy by its
 -- number and in order of number; all units that are in the formula or were added, each once
 abbrev pub program_opening : List (List Literal) → List Entry → Opening
 program_opening F J0 = record {

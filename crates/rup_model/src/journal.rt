@@ -1,4 +1,4 @@
-ghost use Rattle.std.specs.Prelude.{◌≡◌, IfOk};
+ghost use Rattle.std.specs.Prelude.{◌≡◌, [], IfOk};
 
 use sat_words::Lits;
 use std::alloc::{AllocError, Global};
@@ -23,26 +23,13 @@ pub enum Kind {
     UnitLine,
 }
 
-/// A clause added to the log.
+/// Numbers of clauses, in the order given.
 #[derive(Drop)]
-pub struct Addition {
-    /// Who added it.
-    pub ring: u32,
-    /// The clause's number: the formula's clauses have 1 to m, and each addition has the next.
-    pub number: u64,
-    /// The literals, in the order of the line.
-    pub lits: Lits,
-    /// Why it was added.
-    pub kind: Kind,
-}
-
-/// The numbers of start clauses, in the order given.
-#[derive(Drop)]
-pub struct StartNumbers {
+pub struct ClauseNumbers {
     items: Vec<u64>,
 }
 
-impl Model for StartNumbers {
+impl Model for ClauseNumbers {
     ghost use Rattle.std.specs.Prelude.{ℕ, List};
 
     ghost Value = { List ℕ };
@@ -50,12 +37,21 @@ impl Model for StartNumbers {
     ghost view = { λ numbers. numbers.items.items };
 }
 
-impl StartNumbers {
+impl ClauseNumbers {
+    /// No numbers. It takes no memory.
+    pub fn none(alloc: Global) -> ClauseNumbers
+        ensures { result ≡ [] }
+    {
+        ClauseNumbers {
+            items: Vec::new(alloc),
+        }
+    }
+
     /// A copy of the numbers.
-    pub fn from_slice(alloc: Global, numbers: &[u64]) -> Result<StartNumbers, AllocError>
+    pub fn from_slice(alloc: Global, numbers: &[u64]) -> Result<ClauseNumbers, AllocError>
         ensures { IfOk result (λ copy. copy ≡ numbers.now) }
     {
-        Ok(StartNumbers {
+        Ok(ClauseNumbers {
             items: Vec::from_slice(alloc, numbers)?,
         })
     }
@@ -68,11 +64,26 @@ impl StartNumbers {
     }
 }
 
+/// A clause added to the log.
+#[derive(Drop)]
+pub struct Addition {
+    /// Who added it.
+    pub ring: u32,
+    /// The clause's number: the formula's clauses have 1 to m, and each addition has the next.
+    pub number: u64,
+    /// The literals, in the order of the line.
+    pub lits: Lits,
+    /// Why it was added.
+    pub kind: Kind,
+    /// In a log with hints, the numbers of clauses that show one after another that it follows; in other logs none.
+    pub hints: ClauseNumbers,
+}
+
 /// What a round of the rings begins with.
 #[derive(Drop)]
 pub struct Round {
     /// The numbers of the start clauses, in order.
-    pub starts: StartNumbers,
+    pub starts: ClauseNumbers,
     /// The units that are listed from the start.
     pub units: Lits,
 }

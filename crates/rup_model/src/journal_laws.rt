@@ -12,8 +12,7 @@ ghost use Rattle.rup_model.specs.declared.journal.Round.{Round as RoundStart};
 ghost use Rattle.rup_model.specs.declared.journal.Entry.{Entry};
 ghost use Rattle.rup_model.specs.declared.journal.Entry.TheVariants.{Add, Del, Reduce, Round};
 ghost use Rattle.rup_model.specs.Journal.{book, copies_in, lines, Fits, added, is_told, LogSound, ring_of};
-ghost use Rattle.rup_model.specs.Opening.{is_rulers, IsRulersPart, IsOpening, program_opening};
-ghost use Rattle.rup_model.specs.Spent.{ruler_part, rings_part};
+ghost use Rattle.rup_model.specs.Opening.{is_rulers, IsRulersPart, IsOpening, program_opening, ruler_part, rings_part};
 
 /// While no entry adds the empty clause, an addition under the next number that is RUP, or RAT on its first literal, over
 /// what is alive keeps the log sound. The formula may hold the empty clause.

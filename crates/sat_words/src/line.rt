@@ -4,6 +4,7 @@ ghost use Rattle.std.specs.Cmp.Lexicographic.{pointwise};
 ghost use Rattle.std.specs.Cmp.Rules.{comparing};
 ghost use Rattle.std.specs.Ordering.{on};
 ghost use Rattle.sat_words.specs.Literal.{code_of};
+ghost use Rattle.sat_words.specs.Formats.{has_hints};
 
 use crate::literal::Lit;
 use std::alloc::{AllocError, Global};
@@ -88,4 +89,19 @@ pub enum ProofFormat {
     Text,
     /// Binary DRAT, as drat-trim reads it: `a` or `d`, the literals as numbers in groups of seven bits, and a zero byte.
     Binary,
+    /// LRAT as text, as lrat-check and cake_lpr read it: the number of the clause, its literals and the numbers of the clauses
+    /// that show that it follows, as in `5 1 0 1 2 0`; or `5 d 1 0` for a deletion after which the last number is still 5.
+    Lrat,
+}
+
+impl ProofFormat {
+    /// Whether each addition has hints: the numbers of the clauses that show that it follows.
+    pub fn has_hints(self) -> bool
+        ensures { result ≡ has_hints self }
+    {
+        match self {
+            ProofFormat::Text | ProofFormat::Binary => false,
+            ProofFormat::Lrat => true,
+        }
+    }
 }

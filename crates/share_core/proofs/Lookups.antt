@@ -153,27 +153,27 @@ module _ (d : CoreData) (r : ℕ) (m : RingState) (lt : r < length d.rings) (own
 
   pub begin_shown : length d.before ≤ length d.journal → (kind : Kind) (lits : List Literal) (a n : ℕ) (M : List ClauseAt) (T : Bool) (C : List StoredCell) (J : List Entry) → n ≡ (book d.formula d.journal).next → cell_in a d.cells ≡ None → T ≡ ticket_after kind m.ticket
       → M ≡ m.making ++ record { address = a; number = n; lits = lits } ∷ [] → C ≡ d.cells ++ record { address = a; cell = record { lits = lits; number = n; count = 0; maker = Some r } } ∷ []
-      → J ≡ d.journal ++ Add (record { ring = r; number = n; lits = lits; kind = kind }) ∷ []
+      → J ≡ d.journal ++ Add (record { ring = r; number = n; lits = lits; kind = kind; hints = [] }) ∷ []
       → state_of (record d { journal = J; cells = C; rings = set d.rings r (record m { making = M; ticket = T }) }) ≡ after (state_of d) (AddClause r kind lits a)
   begin_shown le kind lits a n M T C J ns free Ts Ms Cs Js =
       let b : ℕ = (book d.formula d.journal).next in
-      let e : Entry = Add (record { ring = r; number = b; lits = lits; kind = kind }) in
+      let e : Entry = Add (record { ring = r; number = b; lits = lits; kind = kind; hints = [] }) in
       let y : StoredCell = record { address = a; cell = record { lits = lits; number = b; count = 0; maker = Some r } } in
       let h : ClauseAt = record { address = a; number = b; lits = lits } in
       let Cb : C ≡ d.cells ++ y ∷ [] = Cs ∙ (λ j. d.cells ++ record { address = a; cell = record { lits = lits; number = ns j; count = 0; maker = Some r } } ∷ []) in
-      let Jb : J ≡ d.journal ++ e ∷ [] = Js ∙ (λ j. d.journal ++ Add (record { ring = r; number = ns j; lits = lits; kind = kind }) ∷ []) in
+      let Jb : J ≡ d.journal ++ e ∷ [] = Js ∙ (λ j. d.journal ++ Add (record { ring = r; number = ns j; lits = lits; kind = kind; hints = [] }) ∷ []) in
       (λ j. state_of (record d { journal = Jb j; cells = Cb j; rings = set d.rings r (record m { making = M; ticket = T }) }))
       ∙ begun_shown d r (record m { making = M; ticket = T }) (made_part h (length d.journal) e (after_learn kind ((state_of d).part r))) lt (λ j. (mine j).granted) e le refl
       (let f : M ≡ (ring_in d.rings r).making ++ h ∷ [] = Ms ∙ (λ j. (mine j).making ++ record { address = a; number = ns j; lits = lits } ∷ []) in let w = placed_here r (length d.before) d.journal e le refl in let t : T ≡ ticket_after kind (ring_in d.rings r).ticket = Ts ∙ (λ j. ticket_after kind (mine j).ticket) in
       λ j. record { ring = r; held = (mine j).held; making = f j; waiting = (mine j).waiting; seen = (mine j).seen; shared = (mine j).shared; wrote = w j; puts = (mine j).puts; ticket = t j; found = (mine j).found }) y free
 
   pub tell_shown : length d.before ≤ length d.journal → (kind : Kind) (lits : List Literal) (n : ℕ) (T : Bool) (J : List Entry) → n ≡ (book d.formula d.journal).next → T ≡ ticket_after kind m.ticket
-      → J ≡ d.journal ++ Add (record { ring = r; number = n; lits = lits; kind = kind }) ∷ []
+      → J ≡ d.journal ++ Add (record { ring = r; number = n; lits = lits; kind = kind; hints = [] }) ∷ []
       → state_of (record d { journal = J; rings = set d.rings r (record m { ticket = T }) }) ≡ written (state_of d) r (after_learn kind ((state_of d).part r)) (addition_of (state_of d) r kind lits)
   tell_shown le kind lits n T J ns Ts Js =
       let b : ℕ = (book d.formula d.journal).next in
-      let e : Entry = Add (record { ring = r; number = b; lits = lits; kind = kind }) in
-      let Jb : J ≡ d.journal ++ e ∷ [] = Js ∙ (λ j. d.journal ++ Add (record { ring = r; number = ns j; lits = lits; kind = kind }) ∷ []) in
+      let e : Entry = Add (record { ring = r; number = b; lits = lits; kind = kind; hints = [] }) in
+      let Jb : J ≡ d.journal ++ e ∷ [] = Js ∙ (λ j. d.journal ++ Add (record { ring = r; number = ns j; lits = lits; kind = kind; hints = [] }) ∷ []) in
       (λ j. state_of (record d { journal = Jb j; rings = set d.rings r (record m { ticket = T }) }))
       ∙ noted_shown d r (record m { ticket = T }) (wrote_part (length d.journal) e (after_learn kind ((state_of d).part r))) lt (λ j. (mine j).granted) e le refl
       (let w = placed_here r (length d.before) d.journal e le refl in let t : T ≡ ticket_after kind (ring_in d.rings r).ticket = Ts ∙ (λ j. ticket_after kind (mine j).ticket) in

@@ -94,18 +94,18 @@ writes c r t e s lt own log low few fresh spaced tickets =
 -- an addition that follows from what the ring knows keeps the journal
 added : (c : State) (r : ℕ) (kind : Kind) (lits : List Literal) → Sound c → r < c.opening.rings → Writes c r → follows (c.part r) lits ≡ true → JournalSound c.opening (c.journal ++ addition_of c r kind lits ∷ [])
 added c r kind lits s lt w f =
-    let x : Addition = record { ring = r; number = (book c.opening.formula c.journal).next; lits = lits; kind = kind } in
+    let x : Addition = record { ring = r; number = (book c.opening.formula c.journal).next; lits = lits; kind = kind; hints = [] } in
     journal_more c.opening c.journal (Add x) s.log (log_adds c.opening.formula c.journal s.log.log x refl (follows_alive c r lits s lt f) (not_added c.opening.formula c.journal w.going)) w.room lt
 
 pub adds_unit : (c : State) (r : ℕ) (kind : Kind) (l : Literal) → Sound c → IsEnabled c (AddUnit r kind l) → Sound (after c (AddUnit r kind l))
 adds_unit c r kind l s e =
-    let x : Addition = record { ring = r; number = (book c.opening.formula c.journal).next; lits = l ∷ []; kind = kind } in
+    let x : Addition = record { ring = r; number = (book c.opening.formula c.journal).next; lits = l ∷ []; kind = kind; hints = [] } in
     writes c r (ticket_after kind (c.part r).ticket) (Add x) s e.0 refl (added c r kind (l ∷ []) s e.0 e.1 e.3) (add_low (book c.opening.formula c.journal) x) (few_added c.opening c.journal x (λ two. true≢false (sym two ∙ ap two_or_more (own_spelling c x s e.0)))) (λ is. may_new c r (l ∷ []) (may_fresh_unit c r kind (l ∷ []) e.2 is)) tt
     (tickets_added c.opening c.drawn c.part r (wrote_part (length c.journal) (Add x) (after_learn kind (c.part r))) s.tickets (length c.journal) x refl (λ is. may_spend c r (l ∷ []) (may_fresh_unit c r kind (l ∷ []) e.2 is)) refl refl refl)
 
 pub adds_empty : (c : State) (r : ℕ) → Sound c → IsEnabled c (AddEmpty r) → Sound (after c (AddEmpty r))
 adds_empty c r s e =
-    let x : Addition = record { ring = r; number = (book c.opening.formula c.journal).next; lits = []; kind = Derive } in
+    let x : Addition = record { ring = r; number = (book c.opening.formula c.journal).next; lits = []; kind = Derive; hints = [] } in
     writes c r (c.part r).ticket (Add x) s e.0 refl (added c r Derive [] s e.0 e.1 e.2) (add_low (book c.opening.formula c.journal) x) (few_added c.opening c.journal x (λ two. true≢false (sym two ∙ ap two_or_more (own_spelling c x s e.0)))) (λ h. absurd (true≢false (sym h))) tt
     (tickets_added c.opening c.drawn c.part r (wrote_part (length c.journal) (Add x) (after_learn Derive (c.part r))) s.tickets (length c.journal) x refl (λ is. absurd (true≢false (sym is))) refl refl refl)
 
@@ -120,7 +120,7 @@ adds_clause c r kind lits a s e =
     let J = c.journal in
     let F = c.opening.formula in
     let b : Book = book F J in
-    let x : Addition = record { ring = r; number = b.next; lits = lits; kind = kind } in
+    let x : Addition = record { ring = r; number = b.next; lits = lits; kind = kind; hints = [] } in
     let new : Cell = record { lits = lits; number = b.next; count = 0; maker = Some r } in
     let d : State = after c (AddClause r kind lits a) in
     let h : ClauseAt = record { address = a; number = b.next; lits = lits } in

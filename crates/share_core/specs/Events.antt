@@ -26,7 +26,7 @@ granted_part o p = record p { held = p.held ++ o.starts }
 
 -- the addition with the next number
 abbrev pub addition_of : State → ℕ → Kind → List Literal → Entry
-addition_of c r kind lits = Add (record { ring = r; number = (book c.opening.formula c.journal).next; lits = lits; kind = kind })
+addition_of c r kind lits = Add (record { ring = r; number = (book c.opening.formula c.journal).next; lits = lits; kind = kind; hints = [] })
 
 -- the deletion of the clause in a cell
 abbrev pub deletion_of : State → ℕ → ℕ → Entry

@@ -39,7 +39,7 @@ IsFound p (Some n) = IsLeast p n
 -- the ruler's entry of a line: an addition has the next number; a deletion names the least number whose clause has these
 -- literals and that is none of those kept
 abbrev pub IsEntryOf : Book → List ℕ → Line → Entry → Type 0
-IsEntryOf b kept (AddLine c) e = e ≡ Add (record { ring = RULER_RING; number = b.next; lits = c; kind = Ruler })
+IsEntryOf b kept (AddLine c) e = e ≡ Add (record { ring = RULER_RING; number = b.next; lits = c; kind = Ruler; hints = [] })
 IsEntryOf b kept (DelLine c) e = (n : ℕ) × (e ≡ Del RULER_RING n) × IsLeast (is_spare b kept c) n
 
 -- each entry is that of its line after the journal and the entries before it

@@ -19,7 +19,7 @@ use crate::journal::next_number;
 use crate::progress::{Origin, Progress};
 use crate::ring::{add_cell, add_where, remove_at};
 use crate::stored::{Cell, ClauseAt, PutNote, StoredCell};
-use rup_model::{Addition, Entry, Kind};
+use rup_model::{Addition, ClauseNumbers, Entry, Kind};
 use sat_words::{Line, Lit, Lits, MAX_ENTRIES};
 use std::alloc::{AllocError, Global};
 
@@ -106,7 +106,7 @@ impl Progress {
     ) -> Result<u64, AllocError>
         requires { length self.old.journal ≤ MAX_ENTRIES }
         ensures number { IfOk result (λ n. n ≡ (book origin.now.formula.clauses self.old.journal).next) }
-        ensures after { IfOk result (λ n. self.new ≡ record self.old { journal = self.old.journal ++ AddEntry (record { ring = ring; number = n; lits = lits.now; kind = kind }) ∷ []; lines = self.old.lines ++ AddLine lits.now ∷ [] }) }
+        ensures after { IfOk result (λ n. self.new ≡ record self.old { journal = self.old.journal ++ AddEntry (record { ring = ring; number = n; lits = lits.now; kind = kind; hints = [] }) ∷ []; lines = self.old.lines ++ AddLine lits.now ∷ [] }) }
     {
         let number = next_number(origin.formula.clauses(), self.journal.as_slice());
         self.journal.push(Entry::Add(Addition {
@@ -114,6 +114,7 @@ impl Progress {
             number,
             lits: Lits::from_slice(alloc, lits)?,
             kind,
+            hints: ClauseNumbers::from_slice(alloc, &[])?,
         }))?;
         self.lines.push(Line::Add(Lits::from_slice(alloc, lits)?))?;
         Ok(number)

@@ -16,7 +16,7 @@ use crate::progress::{Origin, Progress};
 use crate::ring::RingState;
 use crate::rounds::{find_spare, in_order, numbers_of, starts_in};
 use crate::stored::ClauseAt;
-use rup_model::{Entry, RULER_RING, Round, StartNumbers};
+use rup_model::{ClauseNumbers, Entry, RULER_RING, Round};
 use sat_words::{Clause, Line, Lit, Lits, MAX_ENTRIES};
 use std::alloc::{AllocError, Global};
 
@@ -152,7 +152,7 @@ pub(crate) fn may_begin(
         return Ok(false);
     }
     journal.push(Entry::Round(Round {
-        starts: StartNumbers::from_slice(alloc, kept.as_slice())?,
+        starts: ClauseNumbers::from_slice(alloc, kept.as_slice())?,
         units: Lits::from_slice(alloc, units)?,
     }))?;
     let starts = starts_in(alloc, clauses, journal.as_slice(), start)?;

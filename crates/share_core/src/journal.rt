@@ -9,7 +9,7 @@ ghost use Rattle.rup_model.specs.Journal.{addition, book, ended, is_told, is_lea
 ghost use Rattle.share_core.specs.Machine.{adds};
 
 use crate::items::Copied;
-use rup_model::{Addition, Entry, Kind, Round, StartNumbers};
+use rup_model::{Addition, ClauseNumbers, Entry, Kind, Round};
 use sat_words::{Clause, Line, Lit, Lits, MAX_ENTRIES};
 use std::alloc::{AllocError, Global};
 
@@ -21,6 +21,7 @@ impl Copied for Entry {
                 number: x.number,
                 lits: Lits::from_slice(alloc, x.lits.as_slice())?,
                 kind: x.kind,
+                hints: ClauseNumbers::from_slice(alloc, x.hints.as_slice())?,
             })),
             Entry::Del { ring, number } => Ok(Entry::Del {
                 ring: *ring,
@@ -28,7 +29,7 @@ impl Copied for Entry {
             }),
             Entry::Reduce { ring } => Ok(Entry::Reduce { ring: *ring }),
             Entry::Round(x) => Ok(Entry::Round(Round {
-                starts: StartNumbers::from_slice(alloc, x.starts.as_slice())?,
+                starts: ClauseNumbers::from_slice(alloc, x.starts.as_slice())?,
                 units: Lits::from_slice(alloc, x.units.as_slice())?,
             })),
         }

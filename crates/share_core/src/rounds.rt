@@ -13,7 +13,7 @@ ghost use Rattle.share_core.specs.NextRound.{has_lits, is_spare, IsLeast, IsFoun
 use crate::items::{Copied, Items};
 use crate::journal::{adds_clause, includes, next_number};
 use crate::stored::ClauseAt;
-use rup_model::{Addition, Entry, Kind, RULER_RING};
+use rup_model::{Addition, ClauseNumbers, Entry, Kind, RULER_RING};
 use sat_words::{Clause, Line, Lit, Lits, MAX_ENTRIES};
 use std::alloc::{AllocError, Global};
 
@@ -196,6 +196,7 @@ pub(crate) fn entry_of(
             number: next_number(clauses, journal),
             lits: Lits::from_slice(alloc, lits.as_slice())?,
             kind: Kind::Ruler,
+            hints: ClauseNumbers::from_slice(alloc, &[])?,
         })),
         Line::Del(lits) => Ok(Entry::Del {
             ring: RULER_RING,

@@ -19,7 +19,7 @@ use crate::progress::{Origin, Progress};
 use crate::ring::{RingState, has_at, times_of};
 use crate::rounds::{note_lines, numbers_of, starts_in};
 use crate::stored::{Cell, ClauseAt, StoredCell};
-use rup_model::{Entry, Round, StartNumbers};
+use rup_model::{ClauseNumbers, Entry, Round};
 use sat_words::{Clause, Formula, Line, Lit, Lits};
 use std::alloc::{AllocError, Global};
 use std::marker::Model;
@@ -369,7 +369,7 @@ impl Core {
             &mut told,
         )?;
         journal.push(Entry::Round(Round {
-            starts: StartNumbers::from_slice(alloc, kept.as_slice())?,
+            starts: ClauseNumbers::from_slice(alloc, kept.as_slice())?,
             units: Lits::from_slice(alloc, units)?,
         }))?;
         let starts = starts_in(alloc, formula.clauses(), journal.as_slice(), start)?;

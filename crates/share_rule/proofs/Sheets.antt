@@ -101,7 +101,7 @@ next_after o J (Del r n) = let q = ap (λ (b : Book). b.next) (book_last o.formu
 next_after o J (ReduceEntry r) = let q = ap (λ (b : Book). b.next) (book_last o.formula J (ReduceEntry r)) in omega arith
 next_after o J (Round x) = let q = ap (λ (b : Book). b.next) (book_last o.formula J (Round x)) in omega arith
 
-pub long_entry : (m : Room) (n : ℕ) (lits : List Literal) (r : ℕ) (kind : Kind) → 2 ≤ length lits → room_after m (Add (record { ring = r; number = n; lits = lits; kind = kind })) ≡ placed m n (length lits)
+pub long_entry : (m : Room) (n : ℕ) (lits : List Literal) (r : ℕ) (kind : Kind) → 2 ≤ length lits → room_after m (Add (record { ring = r; number = n; lits = lits; kind = kind; hints = [] })) ≡ placed m n (length lits)
 long_entry m n lits r kind le = ⊎_elim
     (λ t i. if t.0 i then placed m n (length lits) else m)
     (λ t. let k = t.1 in absurd (omega arith))

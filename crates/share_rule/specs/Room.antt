@@ -61,7 +61,7 @@ names e n = is_ring n (option_map (λ (x : Addition). x.number) (addition e)) ||
 abbrev pub start_room : Layout → List ClauseAt → Room
 start_room l ss = fold (λ m s. placed m s.number (length s.lits)) (record { holes = whole (first_cell l) l.words; words = λ _. None }) ss
 
--- after the ruler's part of the journal and these entries
+-- after these entries, of which the first stood before the rings began
 abbrev pub room : Layout → CoreOpening → List Entry → Room
 room l o J = fold room_after (start_room l o.starts) (drop (length o.journal) J)
 

@@ -9,11 +9,10 @@ use Rattle.rup_model.specs.declared.journal.Entry.{Entry}
 use Rattle.rup_model.specs.Rup.{rup}
 use Rattle.rup_model.specs.Log.{alive}
 use Rattle.rup_model.specs.Journal.{book, lines, fresh}
-use Rattle.rup_model.specs.Opening.{Start, IsLong, start_clauses, program_opening}
+use Rattle.rup_model.specs.Opening.{Start, IsLong, start_clauses}
 use Rattle.share_core.specs.declared.part.CoreOpening.{CoreOpening}
 use Rattle.share_core.specs.State.{opening_of, later}
 use Rattle.share_rule.specs.declared.Layout.{Layout}
-use Rattle.share_rule.specs.FirstWords.{begun_with}
 use Rattle.share_rule.specs.Layout.{InVars}
 use Rattle.share_rule.specs.Room.{room}
 
@@ -42,7 +41,7 @@ pub record IsTightAt (l : Layout) (o : CoreOpening) (J : List Entry) (need most 
   pub most_is : most ≡ largest (room l o J).holes
   pub short : most < need
 
--- it was so after a front of the journal that has the ruler's part; or the journal is full, and the numbers count entries
+-- it was so after a front of the journal that has what stood before the rings began; or the journal is full, and the numbers count entries
 abbrev pub IsTight : Layout → CoreOpening → List Entry → ℕ → ℕ → Type 0
 IsTight l o J need most =
     ((front rest : List Entry) × (J ≡ front ++ rest) × (length o.journal ≤ length front) × IsTightAt l o front need most)
@@ -51,8 +50,3 @@ IsTight l o J need most =
 -- the start clauses, each with its number
 abbrev pub numbered : List Start → List (ℕ × List Literal)
 numbered ss = map (λ (s : Start). (s.number, s.lits)) ss
-
--- what rings over this layout start from after the ruler's journal, if nothing is chosen: the start clauses and the units of the
--- program's opening
-abbrev pub program_core : List (List Literal) → Layout → List Entry → CoreOpening
-program_core F l J0 = begun_with F l J0 (numbered (program_opening F J0).starts) (program_opening F J0).units

@@ -46,9 +46,9 @@ next_number o J = (book o.formula J).next
 
 -- the entry
 abbrev pub entry_of : CoreOpening → ℕ → List Entry → Part → Note → Entry
-entry_of o r J p (Clause kind lits glue a) = Add (record { ring = r; number = next_number o J; lits = lits; kind = kind })
-entry_of o r J p (UnitNote kind lit) = Add (record { ring = r; number = next_number o J; lits = lit ∷ []; kind = kind })
-entry_of o r J p Empty = Add (record { ring = r; number = next_number o J; lits = []; kind = Derive })
+entry_of o r J p (Clause kind lits glue a) = Add (record { ring = r; number = next_number o J; lits = lits; kind = kind; hints = [] })
+entry_of o r J p (UnitNote kind lit) = Add (record { ring = r; number = next_number o J; lits = lit ∷ []; kind = kind; hints = [] })
+entry_of o r J p Empty = Add (record { ring = r; number = next_number o J; lits = []; kind = Derive; hints = [] })
 entry_of o r J p Reduce = ReduceEntry r
 entry_of o r J p (Bury a) = Del r (clause_in a p.waiting).number
 

@@ -20,7 +20,7 @@ ghost use Rattle.share_rule.specs.Layout.{InVars};
 ghost use Rattle.share_rule.specs.Room.{room};
 ghost use Rattle.share_rule.specs.Seen.{Seen};
 ghost use Rattle.share_rule.specs.Shown.{ring_of};
-ghost use Rattle.share_rule.specs.Tight.{IsTight, numbered, program_core};
+ghost use Rattle.share_rule.specs.Tight.{IsTight, numbered};
 ghost use Rattle.share_rule.specs.Turns.{IsWriting, MayWrite, written_of};
 ghost use Rattle.share_rule.specs.Views.{only};
 
@@ -43,10 +43,8 @@ pub fn a_noted_want_of_room_is_one()
     ensures { (v : View) (s : Seen v) (i : ℕ) (p : RingPart) (need most : ℕ) → get_elem? v.parts i ≡ some p → p.refused ≡ Some (NoHole need most) → IsTight v.layout s.core.opening s.core.journal need most }
 {}
 
-/// Room depends on the start clauses, and on nothing else of an opening: if these are the program's, it is wanted after the program's opening.
+/// The room for start clauses depends on them alone: if they are the program's, one of them finds no hole if one of those does.
 pub fn the_room_is_of_the_starts()
-    ensures tight { (F : List (List Literal)) (l : Layout) (J0 J : List Entry) (ss : List (ℕ × List Literal)) (us : List Literal) (need most : ℕ)
-        → starts_of ss ≡ (program_opening F J0).starts → IsTight l (begun_with F l J0 ss us) J need most → IsTight l (program_core F l J0) J need most }
-    ensures hole { (F : List (List Literal)) (l : Layout) (J0 : List Entry) (ss : List (ℕ × List Literal)) (need most : ℕ)
+    ensures { (F : List (List Literal)) (l : Layout) (J0 : List Entry) (ss : List (ℕ × List Literal)) (need most : ℕ)
         → starts_of ss ≡ (program_opening F J0).starts → IsNoHole l ss need most → IsNoHole l (numbered (program_opening F J0).starts) need most }
 {}

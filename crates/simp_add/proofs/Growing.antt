@@ -6,7 +6,6 @@ use Rattle.std.proofs.lemmas.List.{take_more}
 use Rattle.std.proofs.lemmas.List.Elements.{Contains-get_or}
 use Rattle.sat_words.specs.Literal.{Literal, opposite, same, IsOn}
 use Rattle.sat_words.specs.Clause.{has, same_set, is_empty, clause_of}
-use Rattle.sat_words.specs.declared.line.Line.TheVariants.{Add as AddLine}
 use Rattle.sat_words.proofs.Members.{same-true, opposite-opposite}
 use Rattle.rup_model.specs.Rup.{rup, rat, rat_on, resolvent}
 use Rattle.rup_model.specs.declared.journal.Entry.{Entry}
@@ -17,10 +16,14 @@ use Rattle.drat_text.specs.LineState.{LineState}
 use Rattle.drat_text.specs.declared.stop.LineStop.{LineStop}
 use Rattle.drat_text.specs.declared.stop.LineStop.TheVariants.{Memory}
 use Rattle.simp_base.specs.WorkState.{WorkState, IsWork, lists, numbered}
-use Rattle.simp_base.specs.Calls.{ruler_adds, Added, NotPut}
+use Rattle.std.specs.Prelude.{Ok, Err}
+use Rattle.sat_words.specs.Formats.{has_hints}
+use Rattle.rup_model.specs.Hints.{Numbered, HintsFit}
+use Rattle.rup_model.specs.Hints.{numbered as by_number}
+use Rattle.simp_base.specs.Calls.{ruler_adds, Added, NotAdded, AddsToLog}
 use Rattle.simp_base.specs.Log.{Stands, Continues, GrowsLog}
 use Rattle.simp_base.proofs.Filters.{In_filter}
-use Rattle.simp_base.proofs.Stopping.{not_put_cause, cause_after}
+use Rattle.simp_base.proofs.Stopping.{not_added_cause, cause_after}
 use Rattle.simp_base.proofs.Widening.{continues_grows, logs_grow_along}
 use Rattle.simp_add.specs.Common.{others, is_alive}
 use Rattle.simp_add.specs.Rule.{adds}
@@ -42,11 +45,12 @@ goes_along a b c f g = record { going = g.going; unspent = g.unspent; work = g.w
 pub continues_along : (xs ys : List Entry) (a b c : WorkState) → Continues xs a b → Continues ys b c → Continues (xs ++ ys) a c
 continues_along xs ys a b c f g = record {
   vars = g.vars ∙ f.vars;
+  format = g.format ∙ f.format;
   stands = λ o mine h. subst (λ es. Stands o es c) (append_assoc mine xs ys) (g.stands o (mine ++ xs) (f.stands o mine h));
 }
 
 pub continues_self : (w : WorkState) → Continues [] w w
-continues_self w = record { vars = refl; stands = λ o mine h. subst (λ es. Stands o es w) (sym (append-nil mine)) h }
+continues_self w = record { vars = refl; format = refl; stands = λ o mine h. subst (λ es. Stands o es w) (sym (append-nil mine)) h }
 
 -- a call in the middle was refused
 pub stopped_after : (start now new : WorkState) (stop : LineStop) → now.output.faults ≡ start.output.faults → GrowsLog start now → Stops now new stop → Stops start new stop
@@ -56,7 +60,7 @@ stopped_after start now new stop quiet log h = (cause_after start now new stop q
 
 pub adds_append : (n : ℕ) (xs ys : List (List Literal)) → adds n (xs ++ ys) ≡ adds n xs ++ adds (n + length xs) ys
 adds_append n [] ys = ap (λ (m : ℕ). adds m ys) (let e : n ≡ n + 0 = omega arith in e)
-adds_append n (x ∷ xs) ys = ap (λ (es : List Entry). ruler_adds n x ∷ es) (adds_append (suc n) xs ys ∙ ap (λ (m : ℕ). adds (suc n) xs ++ adds m ys) (let e : suc n + length xs ≡ n + suc (length xs) = omega arith in e))
+adds_append n (x ∷ xs) ys = ap (λ (es : List Entry). ruler_adds n x [] ∷ es) (adds_append (suc n) xs ys ∙ ap (λ (m : ℕ). adds (suc n) xs ++ adds m ys) (let e : suc n + length xs ≡ n + suc (length xs) = omega arith in e))
 
 pub numbered_append : (n : ℕ) (xs ys : List (List Literal)) → numbered n (xs ++ ys) ≡ numbered n xs ++ numbered (n + length xs) ys
 numbered_append n [] ys = ap (λ (m : ℕ). numbered m ys) (let e : n ≡ n + 0 = omega arith in e)
@@ -89,26 +93,31 @@ grown_along a b c xs ys f g =
       last = (let e = f.last in let h = g.last in let l = length-append xs ys in omega arith);
     }
 
-pub grown_added : (old new : WorkState) (lits : List Literal) (number : ℕ) → old.output.spent ≡ false → is_empty lits ≡ false → IsWork new → Added old new lits number
-    → Continues (ruler_adds (old.output.last + 1) lits ∷ []) old new → Grown old new (lits ∷ [])
-grown_added old new lits number unspent some kept h log = record {
+-- a log without hints has none
+no_hints : (b : Bool) (at : Numbered) (c : List Literal) (hints : List ℕ) → b ≡ false → HintsFit b at c hints → hints ≡ []
+no_hints true at c hints e fit = absurd (true≢false e)
+no_hints false at c hints e fit = fit
+
+pub grown_added : (old new : WorkState) (lits : List Literal) (number : ℕ) → old.output.spent ≡ false → has_hints old.output.format ≡ false → is_empty lits ≡ false → IsWork new → Added old new lits number
+    → AddsToLog old new lits (Ok number) → Grown old new (lits ∷ [])
+grown_added old new lits number unspent plain some kept h adds_line = record {
   on = record {
     going = ap (λ (w : WorkState). w.ended) h.state ∙ some;
-    unspent = ap (λ (s : LineState). s.spent) h.put.state ∙ unspent;
+    unspent = ap (λ (s : LineState). s.spent) h.line.put.state ∙ unspent;
     work = kept;
-    quiet = ap (λ (s : LineState). s.faults) h.put.state;
+    quiet = ap (λ (s : LineState). s.faults) h.line.put.state;
     units = ap (λ (w : WorkState). w.units) h.state;
     stack = ap (λ (w : WorkState). w.stack) h.state;
   };
   vars = ap (λ (w : WorkState). w.vars) h.state;
   unheld = ap (λ (w : WorkState). w.unheld) h.state;
-  log = log;
-  clauses = ap (λ (w : WorkState). w.clauses) h.state ∙ ap (λ (n : ℕ). old.clauses ++ (n, clause_of lits) ∷ []) h.put.given;
-  last = ap (λ (s : LineState). s.last) h.put.state;
+  log = subst (λ (hs : List ℕ). Continues (ruler_adds (old.output.last + 1) lits hs ∷ []) old new) (no_hints (has_hints old.output.format) (by_number old.clauses) lits adds_line.hints plain adds_line.fit) adds_line.entries;
+  clauses = ap (λ (w : WorkState). w.clauses) h.state ∙ ap (λ (n : ℕ). old.clauses ++ (n, clause_of lits) ∷ []) h.line.given;
+  last = ap (λ (s : LineState). s.last) h.line.put.state;
 }
 
-pub not_added : (old new : WorkState) (lits : List Literal) (stop : LineStop) → old.ended ≡ false → NotPut old new (AddLine lits) stop → Continues [] old new → Stops old new stop
-not_added old new lits stop going h log = (not_put_cause old new (AddLine lits) stop going h, ([], continues_grows [] old new log))
+pub not_added : (old new : WorkState) (lits : List Literal) (stop : LineStop) → old.ended ≡ false → NotAdded old new lits stop → AddsToLog old new lits (Err stop) → Stops old new stop
+not_added old new lits stop going h adds_line = (not_added_cause old new lits stop going h, ([], continues_grows [] old new adds_line.entries))
 
 -- memory ran out before a line was put
 pub no_memory : (w : WorkState) → w.ended ≡ false → Stops w w Memory

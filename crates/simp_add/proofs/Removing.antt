@@ -8,7 +8,7 @@ use Rattle.std.proofs.lemmas.List.Sums.{sum_by-append}
 use Rattle.std.proofs.lemmas.List.{take_more}
 use Rattle.std.proofs.lemmas.List.Elements.{Contains-append_left, Contains-append_right, Contains-append_cases}
 use Rattle.sat_words.specs.Literal.{Literal}
-use Rattle.sat_words.specs.declared.line.Line.TheVariants.{Del as DelLine}
+use Rattle.drat_text.specs.LineOut.{deleted_line}
 use Rattle.rup_model.specs.declared.journal.Entry.{Entry}
 use Rattle.rup_model.proofs.Lists.{In, In_any, none_In, Contains_In, In_Contains}
 use Rattle.drat_text.specs.LineState.{LineState}
@@ -107,7 +107,7 @@ removed_one old new n going unspent kept h log = record {
 
 pub was_removed : (old new : WorkState) (n : ℕ) (result : Result (Unit {0}) LineStop) → old.ended ≡ false → old.output.spent ≡ false → IsWork new → WasDeleted old new n result → Continues (on_ok result (ruler_deletes n ∷ [])) old new → WasRemoved old new (n ∷ []) result
 was_removed old new n (Ok done) going unspent kept h log = removed_one old new n going unspent kept h log
-was_removed old new n (Err stop) going unspent kept h log = (not_put_cause old new (DelLine h.clause) stop going h.left, ([], continues_grows [] old new log))
+was_removed old new n (Err stop) going unspent kept h log = (not_put_cause old new (deleted_line old.output _ h.clause) stop going h.left, ([], continues_grows [] old new log))
 
 -- one after another
 pub removed_along : (a b c : WorkState) (xs ys : List ℕ) → Removed a b xs → Removed b c ys → Removed a c (xs ++ ys)

@@ -28,10 +28,10 @@ HasNoPartner w l = (k : Literal) → code_of l < code_of k → length (commons w
 abbrev pub additions : Literal → Literal → Literal → List (List Literal) → List (List Literal)
 additions x l k Cs = (x ∷ l ∷ []) ∷ (x ∷ k ∷ []) ∷ map (λ C. opposite x ∷ C) Cs
 
--- the entries that add clauses, from this number on
+-- the entries that add clauses, from this number on, without hints
 abbrev pub adds : ℕ → List (List Literal) → List Entry
 adds n [] = []
-adds n (c ∷ cs) = ruler_adds n c ∷ adds (suc n) cs
+adds n (c ∷ cs) = ruler_adds n c [] ∷ adds (suc n) cs
 
 -- the clause is one of the two literals with a common set
 abbrev pub is_replaced : List (List Literal) → Literal → Literal → List Literal → Bool

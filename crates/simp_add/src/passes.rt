@@ -4,6 +4,7 @@
 // clauses of the new one and two that define it (N. Manthey, M. J. H. Heule and A. Biere, "Automated Reencoding of Boolean
 // Formulas", HVC 2012). Pairwise constraints that at most one of many literals is true become much shorter so.
 ghost use Rattle.std.specs.Prelude.{◌≡◌, ◌<◌, ◌≤◌, ◌+◌, ◌*◌, ◌^◌, ◌⊎◌, false, length, IfOk, OnOk, IfSome, IfNone};
+ghost use Rattle.sat_words.specs.Formats.{has_hints};
 ghost use Rattle.sat_words.specs.Literal.{IsOn, literal_of};
 ghost use Rattle.simp_base.specs.WorkState.{IsWork};
 ghost use Rattle.simp_base.specs.Log.{GrowsLog};
@@ -40,6 +41,7 @@ fn take_turn<L: LineOut>(
 ) -> Result<Ending, LineStop>
     requires unspent { work.old.output.spent ≡ false }
     requires going { work.old.ended ≡ false }
+    requires plain { has_hints work.old.output.format ≡ false }
     requires work { IsWork work.old }
     requires on { IsOn work.old.vars lit }
     requires wide { length tally.old.counts.items ≡ 2 * (work.old.vars + 1) }
@@ -86,10 +88,12 @@ fn literal_of(code: u32, vars: u32) -> Option<Lit>
 /// is common to the two if with either of them it is a clause that is alive. If there are three common sets or more, the
 /// clauses of the two with these sets are replaced by those of a new variable. It ends early if there is no variable left.
 ///
-/// It never answers that the clauses are refuted. After an error the work serves only to give the line output back.
+/// The clauses that are added have no hints, so that the proof's format must not have them. It never answers that the clauses are
+/// refuted. After an error the work serves only to give the line output back.
 pub fn run<L: LineOut>(work: &mut Work<L>) -> Result<Run, LineStop>
     requires unspent { work.old.output.spent ≡ false }
     requires going { work.old.ended ≡ false }
+    requires plain { has_hints work.old.output.format ≡ false }
     ensures ends { Ends work.old work.new result }
     ensures log { GrowsLog work.old work.new }
     ensures work { IsWork work.new }

@@ -4,6 +4,7 @@
 // clauses has the RAT property on the new variable, and the old ones follow from them (M. Järvisalo, M. J. H. Heule and
 // A. Biere, "Inprocessing Rules", IJCAR 2012), so that the old ones are deleted last.
 ghost use Rattle.std.specs.Prelude.{◌≡◌, ◌<◌, ◌∷◌, [], ℕ, List, map, All, Contains, OnOk, true, false};
+ghost use Rattle.sat_words.specs.Formats.{has_hints};
 ghost use Rattle.sat_words.specs.Literal.{Literal, IsOn, opposite};
 ghost use Rattle.rup_model.specs.Rup.{rat};
 ghost use Rattle.simp_base.specs.WorkState.{IsWork, lists};
@@ -31,6 +32,7 @@ fn fill(lits: &mut Vec<Lit>, first: Lit, clause: &[Lit], but: Lit) -> Result<(),
 fn add_pair<L: LineOut>(work: &mut Work<L>, fresh: Lit, other: Lit) -> Result<(), LineStop>
     requires unspent { work.old.output.spent ≡ false }
     requires going { work.old.ended ≡ false }
+    requires plain { has_hints work.old.output.format ≡ false }
     requires rat { rat (lists work.old.clauses) (fresh ∷ other ∷ []) ≡ true }
     requires above { work.old.unheld < fresh.var }
     requires on { All (IsOn work.old.vars) (fresh ∷ other ∷ []) }
@@ -53,6 +55,7 @@ fn add_common<L: LineOut>(
 ) -> Result<(), LineStop>
     requires unspent { work.old.output.spent ≡ false }
     requires going { work.old.ended ≡ false }
+    requires plain { has_hints work.old.output.format ≡ false }
     requires work { IsWork work.old }
     requires comes { CanCome work.old fresh lit number }
     ensures grown { WasGrown work.old work.new ((opposite fresh ∷ set_at work.old.clauses lit number) ∷ []) result }
@@ -81,6 +84,7 @@ fn add_commons<L: LineOut>(
 ) -> Result<(), LineStop>
     requires unspent { work.old.output.spent ≡ false }
     requires going { work.old.ended ≡ false }
+    requires plain { has_hints work.old.output.format ≡ false }
     requires work { IsWork work.old }
     requires come { (n : ℕ) → Contains firsts.now n → CanCome work.old fresh lit n }
     ensures grown { WasGrown work.old work.new (map (λ n. opposite fresh ∷ set_at work.old.clauses lit n) firsts.now) result }
@@ -139,6 +143,7 @@ pub(crate) fn replace<L: LineOut>(
 ) -> Result<(), LineStop>
     requires unspent { work.old.output.spent ≡ false }
     requires going { work.old.ended ≡ false }
+    requires plain { has_hints work.old.output.format ≡ false }
     requires replaceable { IsReplaceable work.old fresh lit partner shared.now.firsts.items shared.now.gone.items }
     ensures exchanged { WasExchanged work.old work.new fresh lit partner result }
     ensures work { IsWork work.new }

@@ -1,5 +1,5 @@
 -- How a work begins.
-use Rattle.std.proofs.Common.{◌≡◌, ℕ, zero, suc, ◌+◌, ◌<◌, true, false, List, [], ◌∷◌, ◌++◌, length, take, get_or, refl, sym, ap, ◌∙◌, subst, inl, inr, arith, Option, None, Some, Contains}
+use Rattle.std.proofs.Common.{◌≡◌, ℕ, zero, suc, ◌+◌, ◌<◌, true, false, List, [], ◌∷◌, ◌++◌, length, take, get_or, refl, sym, ap, ◌∙◌, subst, inl, inr, arith, Some, Contains}
 use Rattle.std.proofs.lemmas.Bool.{true≢false}
 use Rattle.std.specs.List.{All, slice_get}
 use Rattle.std.specs.Option.{option_map}
@@ -67,11 +67,13 @@ begun_work F out last on = record {
   units_on = λ k d lt. absurd (omega arith);
   stack_on = λ k d lt. absurd (omega arith);
   distinct = refl;
+  units_held = λ _ k d lt. absurd (omega arith);
 }
 
 pub begun_stands : (F : FormulaData) (out : LineState) → out.spent ≡ false → out.entries ≡ 0 → out.last ≡ length F.clauses → Stands (record { formula = F.clauses; journal = []; output = out }) [] (begun F out)
 begun_stands F out unspent blank last = record {
   sound = log_starts F.clauses;
+  hinted = λ _. tt;
   rulers = λ k d lt. absurd (omega arith);
   on = λ k d lt. absurd (omega arith);
   ended = refl;

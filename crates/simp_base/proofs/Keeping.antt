@@ -1,30 +1,31 @@
 -- What is kept of a work.
 use Rattle.std.proofs.Common.{◌≡◌, ◌≢◌, ℕ, zero, suc, ◌+◌, ◌<◌, ◌≤◌, Bool, true, false, List, [], ◌∷◌, ◌++◌, length, get_or, refl, sym, ap, ◌∙◌, subst, inl, inr, arith}
 use Rattle.std.specs.List.{All, Contains}
+use Rattle.std.proofs.lemmas.List.{get_or_default}
 use Rattle.std.proofs.lemmas.List.Elements.{All-append}
 use Rattle.sat_words.specs.Literal.{Literal, same}
-use Rattle.sat_words.specs.Clause.{has, is_empty, clause_of, distinct_lits}
+use Rattle.sat_words.specs.Clause.{has, is_empty, clause_of, distinct_lits, two_or_more}
 use Rattle.std.proofs.Common.{◌||◌, not}
 use Rattle.std.specs.List.{list_any}
-use Rattle.std.proofs.lemmas.Bool.{false≢true, and_parts, and_from, or_parts, cases_Bool}
+use Rattle.std.proofs.lemmas.Bool.{false≢true, and_parts, and_from, or_parts, or_left, or_right, cases_Bool}
+use Rattle.std.proofs.lemmas.List.Folds.{list_any-append}
 use Rattle.sat_words.proofs.Members.{same-true, same-refl}
 use Rattle.std.specs.Prelude.{Result, Ok, Err}
 use Rattle.drat_text.specs.declared.stop.LineStop.{LineStop}
 use Rattle.drat_text.specs.declared.stop.LineStop.TheVariants.{ProofFault, Full, Memory}
-use Rattle.sat_words.specs.declared.line.Line.{Line}
-use Rattle.sat_words.specs.declared.line.Line.TheVariants.{Add as AddLine, Del as DelLine}
+use Rattle.sat_words.specs.Formats.{has_hints}
+use Rattle.rup_model.specs.NumberedLines.{NumberedLine}
 use Rattle.sat_words.proofs.Insertion.{same_set-clause_of}
-use Rattle.rup_model.proofs.Lists.{In_has, has_In}
+use Rattle.rup_model.proofs.Lists.{In_has, has_In, In_any, any_In, In_map, map_In, In_Contains, Contains_In}
 use Rattle.rup_model.proofs.Covers.{has_same, same_back}
 use Rattle.model_stack.specs.declared.stack.Fix.{Fix}
 use Rattle.drat_text.specs.LineState.{LineState}
-use Rattle.drat_text.specs.LineOut.{PutLine, WasPut}
+use Rattle.drat_text.specs.LineOut.{PutLine, WasPut, added_line, deleted_line}
 use Rattle.simp_base.specs.WorkState.{WorkState, IsWork, IsFixOn, HaveOwnNumbers, lists, is_only, is_alive_unit}
 use Rattle.sat_words.specs.Literal.{IsOn}
 use Rattle.simp_base.proofs.Lists.{All_In, In_All, one_All}
-use Rattle.simp_base.specs.Removed.{Removed}
 use Rattle.simp_base.specs.Tables.{RemovedNumber}
-use Rattle.simp_base.specs.Calls.{IsListed, NotPut, Deleted, WasAdded}
+use Rattle.simp_base.specs.Calls.{AddedLine, IsListed, NotPut, NotAdded, Deleted, WasAdded, WasAddedLine}
 use Rattle.simp_base.proofs.Removal.{own_less, others_less, removed_All, removed_each, one_clause}
 
 pub clause_of_on : (vars : ℕ) (lits : List Literal) → All (IsOn vars) lits → All (IsOn vars) (clause_of lits)
@@ -53,11 +54,18 @@ lists_more : (cs : List (ℕ × List Literal)) (number : ℕ) (c : List Literal)
 lists_more [] number c = refl
 lists_more (x ∷ cs) number c = ap (λ ds. x.1 ∷ ds) (lists_more cs number c)
 
-pub work_added : (w : WorkState) → IsWork w → (lits : List Literal) → All (IsOn w.vars) lits → (number : ℕ) (b : LineState) → PutLine w.output b (AddLine lits) number
+-- units whose clauses are held still are if one comes
+units_more : (w : WorkState) (number : ℕ) (c : List Literal) → All (λ l. is_alive_unit w l ≡ true) w.units → All (λ l. is_alive_unit (record w { clauses = w.clauses ++ (number, c) ∷ [] }) l ≡ true) w.units
+units_more w number c held k d lt =
+    ap (list_any (is_only (get_or w.units k d))) (lists_more w.clauses number c)
+    ∙ list_any-append (is_only (get_or w.units k d)) (lists w.clauses) (c ∷ []) ∙ or_left _ _ (held k d lt)
+
+pub work_added : (w : WorkState) → IsWork w → (lits : List Literal) → All (IsOn w.vars) lits → (number : ℕ) (b : LineState) → AddedLine w.output b w.clauses lits number
     → (cs : List (ℕ × List Literal)) → cs ≡ w.clauses ++ (number, clause_of lits) ∷ [] → (en : Bool) → IsWork (record w { clauses = cs; ended = en; output = b })
 work_added w kept lits on number b put cs is en =
-    let last : b.last ≡ w.output.last + 1 = ap (λ (s : LineState). s.last) put.state in
+    let last : b.last ≡ w.output.last + 1 = ap (λ (s : LineState). s.last) put.put.state in
     let given = put.given in
+    let format : b.format ≡ w.output.format = ap (λ (s : LineState). s.format) put.put.state in
     subst (λ ds. IsWork (record w { clauses = ds; ended = en; output = b })) (sym is) (record {
       unheld = kept.unheld;
       numbers = numbers_more w.clauses w.output.last number (clause_of lits) kept.numbers kept.given (omega arith);
@@ -66,6 +74,7 @@ work_added w kept lits on number b put cs is en =
       units_on = kept.units_on;
       stack_on = kept.stack_on;
       distinct = kept.distinct;
+      units_held = λ h. units_more w number (clause_of lits) (kept.units_held (ap has_hints (sym format) ∙ h));
     })
 
 All_lists : (P : List Literal → Type 0) (cs : List (ℕ × List Literal)) → All P (lists cs) → All (λ x. P x.1) cs
@@ -78,10 +87,36 @@ lists_All P [] all k d lt = absurd (omega arith)
 lists_All P (x ∷ cs) all zero d lt = all zero (0, d) (omega arith)
 lists_All P (x ∷ cs) all (suc k) d lt = lists_All P cs (λ m e ml. all (suc m) e (omega arith)) k d (omega arith)
 
-pub work_deleted : (w : WorkState) → IsWork w → (c : List Literal) (b : LineState) → PutLine w.output b (DelLine c) 0
-    → (cs : List (ℕ × List Literal)) (place : ℕ) → Removed w.clauses cs place → IsWork (record w { clauses = cs; output = b })
-work_deleted w kept c b put cs place gone =
+pub only_told : (l : Literal) (c : List Literal) → is_only l c ≡ true → c ≡ l ∷ []
+only_told l [] h = absurd (false≢true h)
+only_told l (k ∷ []) h = ap (λ m. m ∷ []) (same-true k l h)
+only_told l (k ∷ j ∷ c) h = absurd (false≢true h)
+
+-- units whose clauses are held still are if one of two literals or more goes
+units_less : (w : WorkState) → IsWork w → (number : ℕ) (c : List Literal) → Contains w.clauses (number, c) → two_or_more c ≡ true → (cs : List (ℕ × List Literal)) → RemovedNumber w.clauses cs number
+    → All (λ l. is_alive_unit w l ≡ true) w.units → All (λ l. is_alive_unit (record w { clauses = cs }) l ≡ true) w.units
+units_less w kept number c alive two cs was held k d lt =
+    let l = get_or w.units k d in
+    let t = In_any (is_only l) (lists w.clauses) (held k d lt) in
+    let u = map_In (λ (x : ℕ × List Literal). x.1) w.clauses t.0 t.1 in
+    let one : u.0.1 ≡ l ∷ [] = u.2 ∙ only_told l t.0 t.2 in
+    let there : Contains w.clauses u.0 = In_Contains w.clauses u.0 u.1 in
+    let apart : u.0.0 ≢ number = λ q. (
+    let same_c = one_clause w.clauses kept.numbers number was.place was.removed.within was.here c alive in
+    let same_u = one_clause w.clauses kept.numbers number was.place was.removed.within was.here u.0.1 (subst (λ (n : ℕ). Contains w.clauses (n, u.0.1)) q there) in
+    let both = get_or_default w.clauses was.place (number, u.0.1) (number, c) was.removed.within in
+    false≢true (ap two_or_more (sym one ∙ ap (λ (x : ℕ × List Literal). x.1) (sym same_u ∙ both ∙ same_c)) ∙ two)) in
+    let left = (others_less w.clauses cs was.place was.removed kept.numbers number was.here u.0.0 u.0.1).1 (there, apart) in
+    any_In (is_only l) (lists cs) u.0.1 (In_map (λ (x : ℕ × List Literal). x.1) cs (u.0.0, u.0.1) (Contains_In cs (u.0.0, u.0.1) left))
+    (subst (λ (x : List Literal). is_only l x ≡ true) (sym one) (same-refl l))
+
+pub work_deleted : (w : WorkState) → IsWork w → (number : ℕ) (c d : List Literal) (b : LineState) → Contains w.clauses (number, c) → two_or_more c ≡ true → PutLine w.output b (deleted_line w.output number d)
+    → (cs : List (ℕ × List Literal)) (gone : RemovedNumber w.clauses cs number) → IsWork (record w { clauses = cs; output = b })
+work_deleted w kept number c d b alive two put cs was =
+    let place = was.place in
+    let gone = was.removed in
     let last : b.last ≡ w.output.last = ap (λ (s : LineState). s.last) put.state in
+    let format : b.format ≡ w.output.format = ap (λ (s : LineState). s.format) put.state in
     record {
       unheld = kept.unheld;
       numbers = own_less w.clauses cs place gone kept.numbers;
@@ -90,17 +125,49 @@ work_deleted w kept c b put cs place gone =
       units_on = kept.units_on;
       stack_on = kept.stack_on;
       distinct = kept.distinct;
+      units_held = λ h. units_less w kept number c alive two cs was (kept.units_held (ap has_hints (sym format) ∙ h));
     }
 
-pub kept_not_put : (old new : WorkState) (x : Line) (stop : LineStop) → IsWork old → NotPut old new x stop → IsWork new
+pub kept_not_put : (old new : WorkState) (x : NumberedLine) (stop : LineStop) → IsWork old → NotPut old new x stop → IsWork new
 kept_not_put old new x ProofFault kept was =
     let last : new.output.last ≡ old.output.last = ap (λ (s : LineState). s.last) was.put.state in
-    subst IsWork (sym was.state) (record { unheld = kept.unheld; numbers = kept.numbers; given = λ k d lt. (let g = kept.given k d lt in omega arith); clauses_on = kept.clauses_on; units_on = kept.units_on; stack_on = kept.stack_on; distinct = kept.distinct })
+    let format : new.output.format ≡ old.output.format = ap (λ (s : LineState). s.format) was.put.state in
+    subst IsWork (sym was.state) (record {
+      unheld = kept.unheld;
+      numbers = kept.numbers;
+      given = λ k d lt. (let g = kept.given k d lt in omega arith);
+      clauses_on = kept.clauses_on;
+      units_on = kept.units_on;
+      stack_on = kept.stack_on;
+      distinct = kept.distinct;
+      units_held = λ h. kept.units_held (ap has_hints (sym format) ∙ h);
+    })
 kept_not_put old new x Full kept was = subst IsWork (sym was.1) kept
 kept_not_put old new x Memory kept was = subst IsWork (sym was) kept
 
+-- an addition that does not stand is a line that does not
+pub not_put_at : (old new : WorkState) (lits : List Literal) (stop : LineStop) → NotAdded old new lits stop → (hints : List ℕ) × NotPut old new (added_line old.output lits hints) stop
+not_put_at old new lits ProofFault was = (was.0, was.2)
+not_put_at old new lits Full was = ([], was)
+not_put_at old new lits Memory was = ([], was)
+
+pub not_put_of : (w : WorkState) (b : LineState) (x : NumberedLine) (stop : LineStop) → WasPut {T = Unit {0}} w.output b x (Err stop) → NotPut w (record w { output = b }) x stop
+not_put_of w b x ProofFault h = record { put = h; state = refl }
+not_put_of w b x Full h = (h.full, ap (λ (s : LineState). record w { output = s }) h.state)
+not_put_of w b x Memory h = ap (λ (s : LineState). record w { output = s }) h
+
+-- after a line that does not stand the work is one, and the output has as many entries and the last number
+pub kept_not_put_at : (w : WorkState) (b : LineState) (x : NumberedLine) (stop : LineStop) → IsWork w → WasPut {T = Unit {0}} w.output b x (Err stop)
+    → IsWork (record w { output = b }) × (b.last ≡ w.output.last) × (b.entries ≡ w.output.entries)
+kept_not_put_at w b x stop kept was = let same = counts stop was in (kept_not_put w (record w { output = b }) x stop kept (not_put_of w b x stop was), same.0, same.1)
+  where
+    counts : (k : LineStop) → WasPut {T = Unit {0}} w.output b x (Err k) → (b.last ≡ w.output.last) × (b.entries ≡ w.output.entries)
+    counts ProofFault h = (ap (λ (s : LineState). s.last) h.state, ap (λ (s : LineState). s.entries) h.state)
+    counts Full h = (ap (λ (s : LineState). s.last) h.state, ap (λ (s : LineState). s.entries) h.state)
+    counts Memory h = (ap (λ (s : LineState). s.last) h, ap (λ (s : LineState). s.entries) h)
+
 pub deleted_by : (w : WorkState) → IsWork w → (number : ℕ) (c : List Literal) → Contains w.clauses (number, c) → (cs : List (ℕ × List Literal)) → RemovedNumber w.clauses cs number
-    → (b : LineState) → PutLine w.output b (DelLine c) 0 → Deleted w (record w { clauses = cs; output = b }) number
+    → (b : LineState) → PutLine w.output b (deleted_line w.output number c) → Deleted w (record w { clauses = cs; output = b }) number
 deleted_by w kept number c alive cs gone b put = record {
   clause = c;
   alive = alive;
@@ -113,21 +180,26 @@ deleted_by w kept number c alive cs gone b put = record {
 -- the work after a call
 
 pub kept_after_add : (old new : WorkState) (lits : List Literal) (result : Result ℕ LineStop) → IsWork old → All (IsOn old.vars) lits → WasAdded old new lits result → IsWork new
-kept_after_add old new lits (Ok number) kept on was = subst IsWork (sym was.state) (work_added old kept lits on number new.output was.put (old.clauses ++ (number, clause_of lits) ∷ []) refl (is_empty lits))
-kept_after_add old new lits (Err stop) kept on was = kept_not_put old new (AddLine lits) stop kept was
+kept_after_add old new lits (Ok number) kept on was = subst IsWork (sym was.state) (work_added old kept lits on number new.output was.line (old.clauses ++ (number, clause_of lits) ∷ []) refl (is_empty lits))
+kept_after_add old new lits (Err stop) kept on was = let p = not_put_at old new lits stop was in kept_not_put old new (added_line old.output lits p.0) stop kept p.1
 
-pub put_del : (a b : LineState) (x : Line) (n : ℕ) (c : List Literal) → x ≡ DelLine c → PutLine a b x n → PutLine a b (DelLine c) 0
-put_del a b x n c is put = let p : PutLine a b (DelLine c) n = subst (λ y. PutLine a b y n) is put in let z : n ≡ 0 = p.given in subst (λ k. PutLine a b (DelLine c) k) z p
+pub not_added_of : (w : WorkState) (b : LineState) (lits : List Literal) (stop : LineStop) → WasAddedLine w.output b w.clauses lits (Err stop) → NotAdded w (record w { output = b }) lits stop
+not_added_of w b lits ProofFault h = (h.hints, h.fit, record { put = h.put; state = refl })
+not_added_of w b lits Full h = (h.full, ap (λ (s : LineState). record w { output = s }) h.state)
+not_added_of w b lits Memory h = ap (λ (s : LineState). record w { output = s }) h
 
-not_put_of : (w : WorkState) (b : LineState) (x : Line) (stop : LineStop) → WasPut w.output b x (Err stop) → NotPut w (record w { output = b }) x stop
-not_put_of w b x ProofFault h = record { put = h; state = refl }
-not_put_of w b x Full h = (h.full, ap (λ (s : LineState). record w { output = s }) h.state)
-not_put_of w b x Memory h = ap (λ (s : LineState). record w { output = s }) h
-
-pub only_told : (l : Literal) (c : List Literal) → is_only l c ≡ true → c ≡ l ∷ []
-only_told l [] h = absurd (false≢true h)
-only_told l (k ∷ []) h = ap (λ m. m ∷ []) (same-true k l h)
-only_told l (k ∷ j ∷ c) h = absurd (false≢true h)
+-- after an addition that does not stand the work is one, and the output has as many entries and the last number
+pub kept_not_added : (w : WorkState) (b : LineState) (lits : List Literal) (stop : LineStop) → IsWork w → WasAddedLine w.output b w.clauses lits (Err stop)
+    → IsWork (record w { output = b }) × (b.last ≡ w.output.last) × (b.entries ≡ w.output.entries)
+kept_not_added w b lits stop kept was =
+    let p = not_put_at w (record w { output = b }) lits stop (not_added_of w b lits stop was) in
+    let same = counts stop was in
+    (kept_not_put w (record w { output = b }) (added_line w.output lits p.0) stop kept p.1, same.0, same.1)
+  where
+    counts : (k : LineStop) → WasAddedLine w.output b w.clauses lits (Err k) → (b.last ≡ w.output.last) × (b.entries ≡ w.output.entries)
+    counts ProofFault h = (ap (λ (s : LineState). s.last) h.put.state, ap (λ (s : LineState). s.entries) h.put.state)
+    counts Full h = (ap (λ (s : LineState). s.last) h.state, ap (λ (s : LineState). s.entries) h.state)
+    counts Memory h = (ap (λ (s : LineState). s.last) h, ap (λ (s : LineState). s.entries) h)
 
 any_lists : (p : List Literal → Bool) (cs : List (ℕ × List Literal)) → list_any (λ c. p c.1) cs ≡ list_any p (lists cs)
 any_lists p [] = refl
@@ -158,8 +230,8 @@ distinct_more (k ∷ us) l d n =
     let away = or_parts (same l k) (has us l) n in
     and_from _ _ (ap not (has_more us l k (not_true (has us k) parts.0) (same_sym k l away.0))) (distinct_more us l parts.1 away.1)
 
-pub work_listed : (w : WorkState) → IsWork w → (l : Literal) → IsOn w.vars l → has w.units l ≡ false → (us : List Literal) → us ≡ w.units ++ l ∷ [] → IsWork (record w { units = us })
-work_listed w kept l on new us is = subst (λ ks. IsWork (record w { units = ks })) (sym is) (record {
+pub work_listed : (w : WorkState) → IsWork w → (l : Literal) → IsOn w.vars l → has w.units l ≡ false → (has_hints w.output.format ≡ true → is_alive_unit w l ≡ true) → (us : List Literal) → us ≡ w.units ++ l ∷ [] → IsWork (record w { units = us })
+work_listed w kept l on new alive us is = subst (λ ks. IsWork (record w { units = ks })) (sym is) (record {
   unheld = kept.unheld;
   numbers = kept.numbers;
   given = kept.given;
@@ -167,6 +239,7 @@ work_listed w kept l on new us is = subst (λ ks. IsWork (record w { units = ks 
   units_on = All-append (IsOn w.vars) w.units (l ∷ []) kept.units_on (one_All (IsOn w.vars) l on);
   stack_on = kept.stack_on;
   distinct = distinct_more w.units l kept.distinct new;
+  units_held = λ h. All-append (λ k. is_alive_unit w k ≡ true) w.units (l ∷ []) (kept.units_held h) (one_All (λ k. is_alive_unit w k ≡ true) l (alive h));
 })
 
 pub listed_silent : (w : WorkState) (l : Literal) (us : List Literal) → has w.units l ≡ false → is_alive_unit w l ≡ true → us ≡ w.units ++ l ∷ [] → IsListed (has w.units l) (is_alive_unit w l) w (record w { units = us }) l
@@ -174,22 +247,25 @@ listed_silent w l us new alive is =
     subst (λ b. IsListed b (is_alive_unit w l) w (record w { units = us }) l) (sym new)
     (subst (λ b. IsListed false b w (record w { units = us }) l) (sym alive) (ap (λ (ks : List Literal). record w { units = ks }) is))
 
-pub listed_line : (w : WorkState) (l : Literal) (b : LineState) (number : ℕ) (cs : List (ℕ × List Literal)) (us : List Literal) → has w.units l ≡ false → is_alive_unit w l ≡ false → PutLine w.output b (AddLine (l ∷ [])) number
+pub listed_line : (w : WorkState) (l : Literal) (b : LineState) (number : ℕ) (cs : List (ℕ × List Literal)) (us : List Literal) → has w.units l ≡ false → is_alive_unit w l ≡ false → AddedLine w.output b w.clauses (l ∷ []) number
     → cs ≡ w.clauses ++ (number, l ∷ []) ∷ [] → us ≡ w.units ++ l ∷ [] → IsListed (has w.units l) (is_alive_unit w l) w (record w { clauses = cs; units = us; output = b }) l
 listed_line w l b number cs us new none put cis is =
     subst (λ x. IsListed x (is_alive_unit w l) w (record w { clauses = cs; units = us; output = b }) l) (sym new)
     (subst (λ x. IsListed false x w (record w { clauses = cs; units = us; output = b }) l) (sym none) (record {
       number = number;
-      put = put;
+      line = put;
       state = λ i. record w { clauses = cis i; units = is i; output = b };
     }))
 
-pub work_listed_line : (w : WorkState) → IsWork w → (l : Literal) → IsOn w.vars l → (b : LineState) (number : ℕ) (cs : List (ℕ × List Literal)) (us : List Literal) → has w.units l ≡ false → PutLine w.output b (AddLine (l ∷ [])) number
+pub work_listed_line : (w : WorkState) → IsWork w → (l : Literal) → IsOn w.vars l → (b : LineState) (number : ℕ) (cs : List (ℕ × List Literal)) (us : List Literal) → has w.units l ≡ false → AddedLine w.output b w.clauses (l ∷ []) number
     → cs ≡ w.clauses ++ (number, l ∷ []) ∷ [] → us ≡ w.units ++ l ∷ [] → IsWork (record w { clauses = cs; units = us; output = b })
 work_listed_line w kept l on b number cs us new put cis is =
     work_listed (record w { clauses = cs; output = b })
     (work_added w kept (l ∷ []) (one_All (IsOn w.vars) l on) number b put cs cis w.ended)
-    l on new us is
+    l on new
+    (λ _. ap (λ ds. list_any (is_only l) (lists ds)) cis ∙ ap (list_any (is_only l)) (lists_more w.clauses number (l ∷ []))
+    ∙ list_any-append (is_only l) (lists w.clauses) ((l ∷ []) ∷ []) ∙ or_right _ _ (or_left _ _ (same-refl l)))
+    us is
 
 -- one entry more on the stack
 pub work_pushed : (w : WorkState) → IsWork w → (l : Literal) (c : List Literal) → has c l ≡ true → All (IsOn w.vars) c → (S : List Fix) → S ≡ w.stack ++ record { lit = l; clause = c } ∷ [] → IsWork (record w { stack = S })
@@ -201,4 +277,5 @@ work_pushed w kept l c holds on S is = subst (λ T. IsWork (record w { stack = T
   units_on = kept.units_on;
   stack_on = All-append (IsFixOn w.vars) w.stack (record { lit = l; clause = c } ∷ []) kept.stack_on (one_All (IsFixOn w.vars) (record { lit = l; clause = c }) (record { lit = All_In (IsOn w.vars) c l on (has_In c l holds); clause = on }));
   distinct = kept.distinct;
+  units_held = kept.units_held;
 })

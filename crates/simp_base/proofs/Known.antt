@@ -1,14 +1,19 @@
 -- What is known of a work.
-use Rattle.std.proofs.Common.{◌≡◌, ◌⊎◌, ℕ, ◌<◌, ◌≤◌, arith, false, true, List, [], ◌∷◌, ◌++◌, refl, sym, ap, ◌∙◌, subst, inl, inr, Bool, Contains, append-nil, ◌+◌}
+use Rattle.std.proofs.Common.{◌≡◌, ◌⊎◌, ℕ, ◌<◌, ◌≤◌, arith, false, true, List, [], ◌∷◌, ◌++◌, refl, sym, ap, ◌∙◌, subst, inl, inr, Bool, not, ◌≢◌, ◌||◌, Contains, append-nil, ◌+◌, ne_eqb}
 use Rattle.std.proofs.lemmas.Bool.{true≢false}
-use Rattle.sat_words.specs.Literal.{Literal, IsOn}
-use Rattle.rup_model.proofs.Lists.{In, In_map, In_append_left, In_append_right, Contains_In, In_Contains}
+use Rattle.sat_words.specs.Literal.{Literal, IsOn, code_of}
+use Rattle.sat_words.specs.Clause.{has_opposites}
+use Rattle.sat_words.specs.Formats.{has_hints}
+use Rattle.rup_model.specs.Rup.{rup}
+use Rattle.rup_model.proofs.Growth.{rup_more}
+use Rattle.rup_model.proofs.Lists.{In, In_any, In_map, map_In, In_append, In_append_left, In_append_right, Contains_In, In_Contains}
 use Rattle.std.specs.List.{All}
 use Rattle.drat_text.specs.LineState.{LineState}
-use Rattle.simp_base.specs.WorkState.{WorkState, IsWork, known, lists, unit_clauses}
+use Rattle.simp_base.specs.WorkState.{WorkState, IsWork, known, lists, unit_clauses, is_only, is_alive_unit}
 use Rattle.simp_base.specs.Calls.{IsListed}
 use Rattle.simp_base.specs.Log.{KeepsLog, Stands}
 use Rattle.simp_base.proofs.Lists.{All_In}
+use Rattle.simp_base.proofs.Keeping.{only_told}
 
 pub known_alive : (w : WorkState) (n : ℕ) (c : List Literal) → Contains w.clauses (n, c) → In c (known w)
 known_alive w n c h = In_append_left (lists w.clauses) (unit_clauses w.units) c (In_map (λ (x : ℕ × List Literal). x.1) w.clauses (n, c) (Contains_In w.clauses (n, c) h))
@@ -21,7 +26,7 @@ on_alive w kept n c h k i =
     All_In (IsOn w.vars) c k (All_In (All (IsOn w.vars)) (lists w.clauses) c kept.clauses_on (In_map (λ (x : ℕ × List Literal). x.1) w.clauses (n, c) (Contains_In w.clauses (n, c) h))) i
 
 pub nothing_logged : (w : WorkState) → KeepsLog w w
-nothing_logged w = ([], record { vars = refl; stands = λ o mine h. subst (λ es. Stands o es w) (sym (append-nil mine)) h })
+nothing_logged w = ([], record { vars = refl; format = refl; stands = λ o mine h. subst (λ es. Stands o es w) (sym (append-nil mine)) h })
 
 pub first_or_rest : (q : ℕ) (rest : List ℕ) (p : ℕ) → Contains (q ∷ rest) p → (q ≡ p) ⊎ Contains rest p
 first_or_rest q rest p h = elim (Contains_In (q ∷ rest) p h) as (λ _. (q ≡ p) ⊎ Contains rest p) [ inl e ↦ inl e | inr i ↦ inr (In_Contains rest p i) ]
@@ -60,14 +65,14 @@ grew old new k false false e h = record {
   units = ap (λ (w : WorkState). w.units) h.state;
   extra = (h.number, k ∷ []) ∷ [];
   alone = one;
-  later = (let e : new.output.last ≡ old.output.last + 1 = ap (λ (s : LineState). s.last) h.put.state in omega arith);
+  later = (let e : new.output.last ≡ old.output.last + 1 = ap (λ (s : LineState). s.last) h.line.put.state in omega arith);
   late = after;
   clauses = ap (λ (w : WorkState). w.clauses) h.state;
   vars = ap (λ (w : WorkState). w.vars) h.state;
   stack = ap (λ (w : WorkState). w.stack) h.state;
   ended = ap (λ (w : WorkState). w.ended) h.state;
-  spent = ap (λ (s : LineState). s.spent) h.put.state;
-  faults = ap (λ (s : LineState). s.faults) h.put.state;
+  spent = ap (λ (s : LineState). s.spent) h.line.put.state;
+  faults = ap (λ (s : LineState). s.faults) h.line.put.state;
 }
   where
     one : (x : ℕ × List Literal) → In x ((h.number, k ∷ []) ∷ []) → x.1 ≡ k ∷ []
@@ -75,5 +80,28 @@ grew old new k false false e h = record {
     one x (inr i) = absurd i
 
     after : (x : ℕ × List Literal) → In x ((h.number, k ∷ []) ∷ []) → old.output.last < x.0
-    after x (inl q) = let given = h.put.given in let e : h.number ≡ x.0 = ap (λ (y : ℕ × List Literal). y.0) q in omega arith
+    after x (inl q) = let given = h.line.given in let e : h.number ≡ x.0 = ap (λ (y : ℕ × List Literal). y.0) q in omega arith
     after x (inr i) = absurd i
+
+-- Hints
+
+-- in a log with hints a clause follows from the clauses held alone
+pub rup_held : (w : WorkState) → IsWork w → has_hints w.output.format ≡ true → (lits : List Literal) → rup (known w) lits ≡ true → rup (lists w.clauses) lits ≡ true
+rup_held w kept h lits = rup_more (known w) (lists w.clauses) lits among
+  where
+    among : (d : List Literal) → In d (known w) → In d (lists w.clauses)
+    among d i = elim (In_append (lists w.clauses) (unit_clauses w.units) d i) as (λ _. In d (lists w.clauses)) [
+      | inl held ↦ held
+      | inr unit ↦ (
+          let t = map_In (λ l. l ∷ []) w.units d unit in
+          let u = In_any (is_only t.0) (lists w.clauses) (All_In (λ l. is_alive_unit w l ≡ true) w.units t.0 (kept.units_held h) t.1) in
+          subst (λ (x : List Literal). In x (lists w.clauses)) (only_told t.0 u.0 u.2 ∙ t.2) u.1)
+    ]
+
+-- a literal alone has no opposite beside it
+pub lone_opposites : (l : Literal) → has_opposites (l ∷ []) ≡ false
+lone_opposites l = ap (λ b. (b || false) || false) (ne_eqb _ _ (away l.neg))
+  where
+    away : (n : Bool) → code_of (record { var = l.var; neg = not n }) ≢ code_of (record { var = l.var; neg = n })
+    away true e = let z = e in omega (arith, z)
+    away false e = let z = e in omega (arith, z)

@@ -20,3 +20,16 @@ pub mod Validity
 pub mod Resuming
 pub mod Widening
 pub mod Order
+pub mod Numbered
+pub mod TableWidening
+pub mod TrailTables
+pub mod TrueSet
+pub mod GoingOn
+pub mod Looking
+pub mod Seeing
+pub mod Quietness
+pub mod Assuming
+pub mod Collecting
+pub mod Needing
+pub mod Descending
+pub mod UnitHints

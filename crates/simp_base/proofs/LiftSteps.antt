@@ -20,6 +20,7 @@ logs_along a b c f g = (
   f.0 ++ g.0,
   record {
     vars = g.1.vars ∙ f.1.vars;
+    format = g.1.format ∙ f.1.format;
     stands = λ o mine h. subst (λ es. Stands o es c) (append_assoc mine f.0 g.0) (g.1.stands o (mine ++ f.0) (f.1.stands o mine h));
   },
 )

@@ -57,6 +57,7 @@ module _ (F : List (List Literal)) (vars : ℕ) (cells : List (ℕ × List Liter
     units_on = In_All (IsOn vars) units (λ l i. unit_on l (All_In (λ k. is_told F journal k ≡ true) units l r.told i));
     stack_on = r.stack_on;
     distinct = r.distinct;
+    units_held = r.units_held;
   }
 
   not_ended : false ≡ list_any is_empty (added journal)
@@ -80,6 +81,7 @@ module _ (F : List (List Literal)) (vars : ℕ) (cells : List (ℕ × List Liter
   pub resumed_stands : Stands origin [] (resumed vars cells units stack out)
   resumed_stands = record {
     sound = over.sound;
+    hinted = over.hinted;
     rulers = λ k d lt. absurd (omega arith);
     on = λ k d lt. absurd (omega arith);
     ended = not_ended F vars cells units stack out (journal ++ []) over;

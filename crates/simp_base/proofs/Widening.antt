@@ -1,21 +1,20 @@
 -- A work of more variables, and tables of more codes.
-use Rattle.std.proofs.Common.{◌≡◌, ℕ, zero, suc, ◌+◌, ◌^◌, ◌<◌, ◌≤◌, Bool, true, false, List, [], ◌∷◌, ◌++◌, length, get_or, refl, sym, ap, ◌∙◌, subst, inl, inr, arith, Option, Some, None, Contains, length-append}
+use Rattle.std.proofs.Common.{◌≡◌, ℕ, ◌+◌, ◌^◌, ◌<◌, ◌≤◌, Bool, true, false, List, [], ◌∷◌, ◌++◌, length, get_or, refl, sym, ◌∙◌, subst, inl, inr, arith, Option, Some, None}
 use Rattle.std.specs.Prelude.{Result, Ok, Err}
-use Rattle.std.specs.List.{All, list_any}
+use Rattle.std.specs.List.{All}
 use Rattle.std.proofs.lemmas.Bool.{cases_lt, cases_Bool}
 use Rattle.sat_words.specs.Literal.{Literal, IsOn, code_of}
 use Rattle.sat_words.specs.Clause.{has}
 use Rattle.rup_model.specs.declared.journal.Entry.{Entry}
 use Rattle.rup_model.specs.Log.{lits_of}
-use Rattle.rup_model.proofs.Lists.{In_any, has_In}
+use Rattle.rup_model.specs.NumberedLines.{line_of}
+use Rattle.rup_model.proofs.Lists.{has_In}
 use Rattle.drat_text.specs.declared.stop.LineStop.{LineStop}
 use Rattle.drat_text.specs.JournalText.{Origin}
-use Rattle.simp_base.specs.WorkState.{WorkState, IsWork, lists, is_only}
+use Rattle.simp_base.specs.WorkState.{WorkState, IsWork, lists}
 use Rattle.simp_base.specs.Log.{Stands, Continues, Grows, GrowsLog}
 use Rattle.simp_base.specs.Calls.{WasWidened}
-use Rattle.simp_base.specs.Tables.{IsTable}
-use Rattle.simp_base.proofs.Lists.{All_In}
-use Rattle.simp_base.proofs.Keeping.{only_told}
+use Rattle.simp_base.proofs.Lists.{All_In, past_end, padded_twice}
 use Rattle.simp_base.proofs.Steps.{nothing_more}
 use Rattle.std.proofs.Common.{append_assoc}
 
@@ -40,11 +39,13 @@ module _ (w : WorkState) (u : ℕ) (le : w.vars ≤ u) where
     units_on = all_on_wider w.vars u le w.units kept.units_on;
     stack_on = λ k d lt. (let fix = kept.stack_on k d lt in record { lit = on_wider w.vars u le (get_or w.stack k d).lit fix.lit; clause = all_on_wider w.vars u le (get_or w.stack k d).clause fix.clause });
     distinct = kept.distinct;
+    units_held = kept.units_held;
   }
 
   pub stands_wider : (o : Origin) (mine : List Entry) → Stands o mine w → Stands o mine (record w { vars = u })
   stands_wider o mine h = record {
     sound = h.sound;
+    hinted = h.hinted;
     rulers = h.rulers;
     on = each_on_wider w.vars u le _ h.on;
     ended = h.ended;
@@ -56,19 +57,20 @@ module _ (w : WorkState) (u : ℕ) (le : w.vars ≤ u) where
       entries = h.lines.entries;
       last = h.lines.last;
       whole = h.lines.whole;
-      short = λ q. (let t = h.lines.short q in record { line = t.line; accepted = t.accepted; on = all_on_wider w.vars u le (lits_of t.line) t.on; rose = t.rose; front = t.front });
+      short = λ q. (let t = h.lines.short q in record { line = t.line; accepted = t.accepted; on = all_on_wider w.vars u le (lits_of (line_of t.line)) t.on; rose = t.rose; front = t.front });
       target = h.lines.target;
       flushed = h.lines.flushed;
     };
   }
 
 pub continues_grows : (entries : List Entry) (a b : WorkState) → Continues entries a b → Grows entries a b
-continues_grows entries a b c = record { vars = (let e = c.vars in omega arith); few = λ le. subst (λ (n : ℕ). n ≤ 2 ^ 30) (sym c.vars) le; stands = c.stands }
+continues_grows entries a b c = record { vars = (let e = c.vars in omega arith); few = λ le. subst (λ (n : ℕ). n ≤ 2 ^ 30) (sym c.vars) le; format = c.format; stands = c.stands }
 
 pub grows_along : (fs gs : List Entry) (a b c : WorkState) → Grows fs a b → Grows gs b c → Grows (fs ++ gs) a c
 grows_along fs gs a b c f g = record {
   vars = (let p = f.vars in let q = g.vars in omega arith);
   few = λ le. g.few (f.few le);
+  format = g.format ∙ f.format;
   stands = λ o mine h. subst (λ es. Stands o es c) (append_assoc mine fs gs) (g.stands o (mine ++ fs) (f.stands o mine h));
 }
 
@@ -77,7 +79,7 @@ logs_grow_along a b c f g = (f.0 ++ g.0, grows_along f.0 g.0 a b c f.1 g.1)
 
 -- a variable more
 
-one_more : (w : WorkState) → w.vars ≤ w.vars + 1
+pub one_more : (w : WorkState) → w.vars ≤ w.vars + 1
 one_more w = omega arith
 
 pub kept_widened : (old new : WorkState) (result : Result (Option Literal) LineStop) → IsWork old → WasWidened old new result → IsWork new
@@ -86,7 +88,7 @@ kept_widened old new (Ok None) kept was = subst IsWork (sym was.state) kept
 kept_widened old new (Err stop) kept was = subst IsWork (sym was.1) kept
 
 pub grows_none : (w : WorkState) → Grows [] w w
-grows_none w = record { vars = omega arith; few = λ le. le; stands = nothing_more_of }
+grows_none w = record { vars = omega arith; few = λ le. le; format = refl; stands = nothing_more_of }
   where
     nothing_more_of : (o : Origin) (mine : List Entry) → Stands o mine w → Stands o (mine ++ []) w
     nothing_more_of o mine h = nothing_more o mine w h
@@ -95,28 +97,13 @@ pub grows_widened : (old new : WorkState) (result : Result (Option Literal) Line
 grows_widened old new (Ok (Some l)) was = subst (Grows [] old) (sym was.state) (record {
   vars = one_more old;
   few = λ _. (let lt = was.below in omega arith);
+  format = refl;
   stands = λ o mine h. nothing_more o mine (record old { vars = old.vars + 1 }) (stands_wider old (old.vars + 1) (one_more old) o mine h);
 })
 grows_widened old new (Ok None) was = subst (Grows [] old) (sym was.state) (grows_none old)
 grows_widened old new (Err stop) was = subst (Grows [] old) (sym was.1) (grows_none old)
 
 -- The tables
-
-past_end : {X : Type 0} (xs : List X) (k : ℕ) (d : X) → length xs ≤ k → get_or xs k d ≡ d
-past_end [] zero d le = refl
-past_end [] (suc k) d le = refl
-past_end (x ∷ xs) zero d le = absurd (omega arith)
-past_end (x ∷ xs) (suc k) d le = past_end xs k d (omega arith)
-
--- one element more, which is what stands past the end
-pub padded : {X : Type 0} (xs : List X) (k : ℕ) (d : X) → get_or (xs ++ d ∷ []) k d ≡ get_or xs k d
-padded [] zero d = refl
-padded [] (suc k) d = past_end [] k d (omega arith)
-padded (x ∷ xs) zero d = refl
-padded (x ∷ xs) (suc k) d = padded xs k d
-
-pub padded_twice : {X : Type 0} (xs : List X) (k : ℕ) (d : X) → get_or ((xs ++ d ∷ []) ++ d ∷ []) k d ≡ get_or xs k d
-padded_twice xs k d = padded (xs ++ d ∷ []) k d ∙ padded xs k d
 
 -- a table by code of literals of which each has a code within it
 pub for_each_code : (bits : List Bool) (p : Literal → Bool) → ((l : Literal) → code_of l < length bits → get_or bits (code_of l) false ≡ p l)
@@ -134,27 +121,3 @@ for_each_code bits p is within l =
 -- a literal listed has a code
 pub listed_code : (codes : ℕ) (us : List Literal) → All (λ l. code_of l < codes) us → (l : Literal) → has us l ≡ true → code_of l < codes
 listed_code codes us all l h = All_In (λ k. code_of k < codes) us l all (has_In us l h)
-
--- a literal that stands alone has one
-alone_code : (codes : ℕ) (cells : List (ℕ × List Literal)) → All (All (λ l. code_of l < codes)) (lists cells) → (l : Literal) → list_any (is_only l) (lists cells) ≡ true → code_of l < codes
-alone_code codes cells all l h =
-    let t = In_any (is_only l) (lists cells) h in
-    let c = All_In (All (λ k. code_of k < codes)) (lists cells) t.0 all t.1 in
-    subst (All (λ k. code_of k < codes)) (only_told l t.0 t.2) c 0 l (omega arith)
-
--- the codes of one variable more
-pub table_wider : (cells : List (ℕ × List Literal)) (places : List ℕ) (singles : List Bool) (notes : List (List ℕ)) → IsTable cells places singles notes
-    → All (All (λ l. code_of l < length singles)) (lists cells) → IsTable cells places ((singles ++ false ∷ []) ++ false ∷ []) (notes ++ [] ∷ [] ∷ [])
-table_wider cells places singles notes t on = record {
-  placed = t.placed;
-  alone = λ l lt. for_each_code singles (λ k. list_any (is_only k) (lists cells)) t.alone (alone_code (length singles) cells on) l;
-  noted = λ n c l i h. subst (λ (ns : List ℕ). Contains ns n) (sym (ap (λ (xs : List (List ℕ)). get_or xs (code_of l) []) twice ∙ padded_twice notes (code_of l) [])) (t.noted n c l i h);
-  wide =
-      (let a = length-append notes ([] ∷ [] ∷ []) in
-      let b = length-append (singles ++ false ∷ []) (false ∷ []) in
-      let c = length-append singles (false ∷ []) in
-      let e = t.wide in omega arith);
-}
-  where
-    twice : notes ++ [] ∷ [] ∷ [] ≡ (notes ++ [] ∷ []) ++ [] ∷ []
-    twice = sym (append_assoc notes ([] ∷ []) ([] ∷ []))

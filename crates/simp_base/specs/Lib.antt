@@ -9,3 +9,6 @@ pub mod Multisets
 pub mod Tables
 pub mod Parts
 pub mod Stacked
+pub mod Hinting
+pub mod Search
+pub mod Collecting

@@ -4,8 +4,10 @@ use Rattle.std.specs.List.{list_any}
 use Rattle.std.specs.Option.{option_map}
 use Rattle.sat_words.specs.Literal.{Literal, IsOn}
 use Rattle.sat_words.specs.Clause.{is_empty, clause_of}
+use Rattle.sat_words.specs.Formats.{has_hints}
 use Rattle.rup_model.specs.declared.journal.Entry.{Entry}
 use Rattle.rup_model.specs.Journal.{book, added, is_told, LogSound}
+use Rattle.rup_model.specs.NumberedLines.{AreHinted}
 use Rattle.rup_model.specs.Opening.{is_rulers}
 use Rattle.drat_text.specs.LineState.{LineState}
 use Rattle.drat_text.specs.JournalText.{Origin, HasText, HasTextCut}
@@ -31,11 +33,12 @@ pub record IsPassedOver (unheld : ℕ) (c : List Literal) : Type 0 where
   pub on : All (IsOn unheld) c
 
 -- the work stands over this origin with these entries of its own, which are the ruler's: each line of the one journal is
--- valid where it stands, the clauses are those that it leaves alive, each under its number and in the order of `Clause`, except
--- for some that are passed over; each listed unit is in the formula or was added, and each unit that is in the formula or was
+-- valid where it stands, and shown by its hints if the log has hints; the clauses are those that it leaves alive, each under its number
+-- and in the order of `Clause`, except for some that are passed over; each listed unit is in the formula or was added, and each unit that is in the formula or was
 -- added is listed or a clause; and the output has the lines
 pub record Stands (o : Origin) (mine : List Entry) (w : WorkState) : Type 0 where
   pub sound : LogSound o.formula (journal_of o mine)
+  pub hinted : has_hints w.output.format ≡ true → AreHinted o.formula (journal_of o mine)
   pub rulers : All (λ e. is_rulers e ≡ true) mine
   pub on : All (All (IsOn w.vars)) (added mine)
   pub ended : w.ended ≡ list_any is_empty (added (journal_of o mine))
@@ -45,19 +48,21 @@ pub record Stands (o : Origin) (mine : List Entry) (w : WorkState) : Type 0 wher
   pub every : (l : Literal) → is_told o.formula (journal_of o mine) l ≡ true → is_unit w l ≡ true
   pub lines : HasLines o mine w.vars w.output
 
--- whatever a work stands over, it still does once these entries follow; the variables are as they were
+-- whatever a work stands over, it still does once these entries follow; the variables and the format are as they were
 pub record Continues (entries : List Entry) (old new : WorkState) : Type 0 where
   pub vars : new.vars ≡ old.vars
+  pub format : new.output.format ≡ old.output.format
   pub stands : (o : Origin) (mine : List Entry) → Stands o mine old → Stands o (mine ++ entries) new
 
 -- whatever a work stands over, it still does after some entries of its own, the same over each origin
 abbrev pub KeepsLog : WorkState → WorkState → Type 0
 KeepsLog old new = (entries : List Entry) × Continues entries old new
 
--- whatever a work stands over, it still does once these entries follow; there may be more variables, but none that a literal
--- cannot have
+-- whatever a work stands over, it still does once these entries follow; the format is as it was; there may be more variables, but
+-- none that a literal cannot have
 pub record Grows (entries : List Entry) (old new : WorkState) : Type 0 where
   pub vars : old.vars ≤ new.vars
+  pub format : new.output.format ≡ old.output.format
   pub few : old.vars ≤ 2 ^ 30 → new.vars ≤ 2 ^ 30
   pub stands : (o : Origin) (mine : List Entry) → Stands o mine old → Stands o (mine ++ entries) new
 

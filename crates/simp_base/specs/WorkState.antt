@@ -4,6 +4,7 @@ use Rattle.std.specs.List.{list_any, slice_index_or}
 use Rattle.sat_words.specs.Literal.{Literal, IsOn, same}
 use Rattle.sat_words.specs.Clause.{has, distinct_lits, clause_of}
 use Rattle.sat_words.specs.FormulaData.{FormulaData}
+use Rattle.sat_words.specs.Formats.{has_hints}
 use Rattle.model_stack.specs.declared.stack.Fix.{Fix}
 use Rattle.drat_text.specs.LineState.{LineState}
 
@@ -62,7 +63,7 @@ pub record IsFixOn (vars : ℕ) (fix : Fix) : Type 0 where
   pub clause : All (IsOn vars) fix.clause
 
 -- each clause has a number of its own, which was given; all literals are on the variables, those of clauses not held among them;
--- no unit is listed twice
+-- no unit is listed twice; if the log has hints, the clause of each listed unit is held
 pub record IsWork (w : WorkState) : Type 0 where
   pub unheld : w.unheld ≤ w.vars
   pub numbers : HaveOwnNumbers w.clauses
@@ -71,6 +72,7 @@ pub record IsWork (w : WorkState) : Type 0 where
   pub units_on : All (IsOn w.vars) w.units
   pub stack_on : All (IsFixOn w.vars) w.stack
   pub distinct : distinct_lits w.units ≡ true
+  pub units_held : has_hints w.output.format ≡ true → All (λ l. is_alive_unit w l ≡ true) w.units
 
 -- How it begins
 

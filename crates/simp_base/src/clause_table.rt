@@ -5,11 +5,11 @@
 // is passed over where it is read.
 ghost use Rattle.std.specs.Prelude.{◌≡◌, ◌<◌, ◌≤◌, ◌+◌, ◌*◌, ◌^◌, ℕ, List, [], ◌∷◌, ◌++◌, ◌||◌, true, false, length, All, Contains, IfOk, IfSome, IfNone, OnOk, OnErr, vec_len};
 ghost use Rattle.std.specs.List.{list_any, slice_index_or};
-ghost use Rattle.sat_words.specs.Literal.{Literal, code_of};
+ghost use Rattle.sat_words.specs.Literal.{Literal, opposite, code_of};
 ghost use Rattle.sat_words.specs.Clause.{has, two_or_more};
 ghost use Rattle.simp_base.specs.Removed.{Removed};
 ghost use Rattle.simp_base.specs.WorkState.{lists, is_only};
-ghost use Rattle.simp_base.specs.Tables.{SameClauses, IsReady, RemovedNumber};
+ghost use Rattle.simp_base.specs.Tables.{SameClauses, IsReady, RemovedNumber, IsUnitNumber, IsClash, IsClashAfter, alone_after};
 
 use crate::occurrences::Occurrences;
 use sat_words::{Clause, Lit};
@@ -23,8 +23,10 @@ pub(crate) struct ClauseTable {
     cells: Vec<(u64, Clause)>,
     /// By number, where the clause stands.
     places: Vec<usize>,
-    /// By the literal's code, whether a clause is this literal alone.
-    alone: Vec<bool>,
+    /// By the literal's code, the number of the first clause that is this literal alone.
+    alone: Vec<Option<u64>>,
+    /// A literal that stands alone in a clause, as its negation does in another.
+    clash: Option<Lit>,
     occurrences: Occurrences,
 }
 
@@ -43,7 +45,7 @@ impl Model for ClauseTable {
       number_room = vec_capacity t.places - vec_len t.places;
     } };
 
-    ghost invariant = { λ t. IsTable t.cells.items t.places.items t.alone.items t.occurrences };
+    ghost invariant = { λ t. IsTable t.cells.items t.places.items t.alone.items t.clash t.occurrences };
 }
 
 /// Whether the literal stands alone.
@@ -56,15 +58,34 @@ fn is_only(lit: Lit, lits: &[Lit]) -> bool
     }
 }
 
-/// Notes the literal of a clause that has just one.
-fn note_alone(alone: &mut Vec<bool>, lits: &[Lit])
+/// Notes the literal of a clause that has just one, unless it is noted.
+fn note_alone(alone: &mut Vec<Option<u64>>, lits: &[Lit], number: u64)
     requires { All (λ l. code_of l < vec_len alone.old) lits.now }
     ensures len { vec_len alone.new ≡ vec_len alone.old }
     ensures noted { (l : Literal) → code_of l < vec_len alone.old
-        → slice_index_or alone.new.items (code_of l) false ≡ (slice_index_or alone.old.items (code_of l) false || is_only l lits.now) }
+        → slice_index_or alone.new.items (code_of l) None ≡ alone_after (slice_index_or alone.old.items (code_of l) None) (is_only l lits.now) number }
 {
     if let [only] = lits {
-        alone[only.code() as usize] = true;
+        let code = only.code() as usize;
+        if alone[code].is_none() {
+            alone[code] = Some(number);
+        }
+    }
+}
+
+/// A literal noted to stand alone as its negation does: the one before, or that of a clause that has just one.
+fn clash_after(before: Option<Lit>, alone: &[Option<u64>], lits: &[Lit]) -> Option<Lit>
+    ensures { IsClashAfter alone.now lits.now before result }
+{
+    if before.is_some() {
+        return before;
+    }
+    match lits {
+        [only] => match alone.get(only.not().code() as usize) {
+            Some(Some(_)) => Some(*only),
+            _ => None,
+        },
+        _ => None,
     }
 }
 
@@ -84,7 +105,7 @@ impl ClauseTable {
         ensures codes { IfOk result (λ t. t.codes ≡ 2 * (vars + 1)) }
     {
         let occurrences = Occurrences::blank(alloc, vars)?;
-        let alone = vec![in alloc; false; 2 * (vars as usize + 1)]?;
+        let alone = vec![in alloc; None; 2 * (vars as usize + 1)]?;
         let Some(next) = (last as usize).checked_add(1) else {
             return Err(AllocError);
         };
@@ -94,6 +115,7 @@ impl ClauseTable {
             cells: Vec::new(alloc),
             places,
             alone,
+            clash: None,
             occurrences,
         })
     }
@@ -118,13 +140,41 @@ impl ClauseTable {
         requires { code_of lit < self.now.codes }
         ensures { result ≡ list_any (is_only lit) (lists self.now.clauses) }
     {
-        self.alone[lit.code() as usize]
+        self.alone[lit.code() as usize].is_some()
+    }
+
+    /// The number of the first clause that is this literal alone.
+    pub(crate) fn unit_number(&self, lit: Lit) -> Option<u64>
+        ensures { IsUnitNumber self.now.clauses lit result }
+    {
+        match self.alone.get(lit.code() as usize) {
+            Some(number) => *number,
+            None => None,
+        }
+    }
+
+    /// A literal that stands alone in a clause, as its negation does in another.
+    pub(crate) fn clash(&self) -> Option<Lit>
+        ensures { IsClash self.now.clauses result }
+    {
+        self.clash
+    }
+
+    /// How many codes of literals there are.
+    pub(crate) fn codes(&self) -> usize
+        ensures codes { result ≡ self.now.codes }
+        ensures even { (k : ℕ) × (result ≡ 2 * k) }
+        ensures within { (n : ℕ) (c : List Literal) (l : Literal) → Contains self.now.clauses (n, c) → has c l ≡ true → code_of l < result }
+    {
+        self.alone.len()
     }
 
     /// The clause with this number, if it is alive.
     pub(crate) fn get(&self, number: u64) -> Option<&Clause>
         ensures some { IfSome result (λ clause. Contains self.now.clauses (number, clause.now)) }
         ensures none { IfNone result ((c : List Literal) → Contains self.now.clauses (number, c) → ⊥) }
+        ensures only { IfSome result (λ clause. (c : List Literal) → Contains self.now.clauses (number, c) → c ≡ clause.now) }
+        ensures codes { IfSome result (λ clause. All (λ l. code_of l < self.now.codes) clause.now) }
     {
         if number >= self.places.len() as u64 {
             return None;
@@ -152,6 +202,18 @@ impl ClauseTable {
         ensures every { (n : ℕ) (c : List Literal) → Contains self.now.clauses (n, c) → has c lit ≡ true → Contains result.now n }
     {
         self.occurrences.of(lit)
+    }
+
+    /// The numbers that were noted for the negation of the literal.
+    pub(crate) fn noted_against(&self, lit: Lit) -> &[u64]
+        ensures every { (n : ℕ) (c : List Literal) → Contains self.now.clauses (n, c) → has c (opposite lit) ≡ true → Contains result.now n }
+    {
+        let against = lit.not();
+        if (against.code() as usize) < self.alone.len() {
+            self.occurrences.of(against)
+        } else {
+            &[]
+        }
     }
 
     /// The number of the next clause.
@@ -185,7 +247,9 @@ impl ClauseTable {
         ensures codes { self.new.codes ≡ self.old.codes }
     {
         self.places.push_reserved(self.cells.len());
-        note_alone(&mut self.alone, clause.lits());
+        note_alone(&mut self.alone, clause.lits(), number);
+        let clash = clash_after(self.clash, self.alone.as_slice(), clause.lits());
+        self.clash = clash;
         self.cells.push_reserved((number, clause));
     }
 
@@ -201,7 +265,9 @@ impl ClauseTable {
         self.cells.reserve(1)?;
         self.occurrences.note_all(clause.lits(), number)?;
         self.places[number as usize] = self.cells.len();
-        note_alone(&mut self.alone, clause.lits());
+        note_alone(&mut self.alone, clause.lits(), number);
+        let clash = clash_after(self.clash, self.alone.as_slice(), clause.lits());
+        self.clash = clash;
         self.cells.push_reserved((number, clause));
         Ok(())
     }
@@ -231,8 +297,8 @@ impl ClauseTable {
     {
         self.alone.reserve(2)?;
         self.occurrences.widen(self.alloc)?;
-        self.alone.push_reserved(false);
-        self.alone.push_reserved(false);
+        self.alone.push_reserved(None);
+        self.alone.push_reserved(None);
         Ok(())
     }
 }

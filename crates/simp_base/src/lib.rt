@@ -6,6 +6,7 @@
 
 mod beginning;
 mod clause_table;
+mod hints;
 mod laws;
 mod occurrences;
 mod part;

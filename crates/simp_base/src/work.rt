@@ -3,24 +3,26 @@
 // Each call that changes a work says which entries the journal has gained. Whatever journal stood after the work before,
 // with these entries it stands behind the work afterwards, each of its lines valid where it stands.
 ghost use Rattle.std.specs.Prelude.{◌≡◌, ◌<◌, ◌≤◌, ◌+◌, ◌^◌, ℕ, List, ◌++◌, [], ◌∷◌, true, false, OnOk, OnErr, IfOk, IfErr, IfSome, IfNone, All, Contains, length};
-ghost use Rattle.sat_words.specs.Literal.{Literal, IsOn};
+ghost use Rattle.sat_words.specs.Literal.{Literal, IsOn, code_of};
 ghost use Rattle.sat_words.specs.Clause.{has, has_opposites, two_or_more};
-ghost use Rattle.sat_words.specs.declared.line.Line.TheVariants.{Del as DelLine};
+ghost use Rattle.sat_words.specs.Formats.{has_hints};
 ghost use Rattle.rup_model.specs.Rup.{rup};
-ghost use Rattle.simp_base.specs.WorkState.{IsWork, known, begun, is_unit, has_unit};
+ghost use Rattle.simp_base.specs.WorkState.{IsWork, HaveOwnNumbers, known, lists, begun, is_unit, has_unit};
 ghost use Rattle.simp_base.specs.Log.{Stands, Continues};
-ghost use Rattle.simp_base.specs.Calls.{ruler_adds, ruler_deletes, on_ok, WasAdded, WasAddedLine, WasDeleted, WasListed, unit_entries};
+ghost use Rattle.simp_base.specs.Calls.{ruler_deletes, on_ok, AddsToLog, ListsInLog, WasAdded, WasAddedLine, WasDeleted, WasListed};
 
 mod extension;
+mod look_ups;
 mod resumption;
 
 use crate::beginning::table_of;
 use crate::clause_table::ClauseTable;
+use crate::hints::Hinter;
 use crate::unit_table::UnitTable;
 use drat_text::{LineOut, LineStop};
 use model_stack::Stack;
 pub use resumption::LogEnd;
-use sat_words::{Clause, Formula, Line, Lit, Lits};
+use sat_words::{Clause, Formula, Lit};
 use std::alloc::{AllocFailed, Global};
 use std::marker::Model;
 
@@ -57,6 +59,7 @@ pub struct Work<L: LineOut> {
     unheld: u32,
     clauses: ClauseTable,
     units: UnitTable,
+    hinter: Hinter,
     stack: Stack,
     ended: bool,
     lines: u64,
@@ -90,15 +93,26 @@ impl<L: LineOut> Model for Work<L> {
     }) × (w.clauses.next ≡ (L.told w.output).last + 1) × (w.clauses.codes ≡ 2 * (w.vars + 1)) × (w.units.codes ≡ 2 * (w.vars + 1)) × (w.lines ≡ (L.told w.output).entries) };
 }
 
-/// Puts the line that adds the clause. Answers its number.
-fn add_line<L: LineOut>(alloc: Global, output: &mut L, lits: &[Lit]) -> Result<u64, LineStop>
-    requires { (L.told output.old).spent ≡ false }
-    ensures { WasAddedLine (L.told output.old) (L.told output.new) lits.now result }
+/// Puts the line that adds a clause to these, with hints if the format has them. Answers its number.
+fn add_line<L: LineOut>(
+    clauses: &ClauseTable,
+    hinter: &mut Hinter,
+    output: &mut L,
+    lits: &[Lit],
+) -> Result<u64, LineStop>
+    requires unspent { (L.told output.old).spent ≡ false }
+    requires own { HaveOwnNumbers clauses.now.clauses }
+    requires codes { All (λ l. code_of l < clauses.now.codes) lits.now }
+    requires rup { has_hints (L.told output.old).format ≡ true → (rup (lists clauses.now.clauses) lits.now ≡ true) × (has_opposites lits.now ≡ false) }
+    ensures { WasAddedLine (L.told output.old) (L.told output.new) clauses.now.clauses lits.now result }
 {
-    let Ok(copy) = Lits::from_slice(alloc, lits) else {
+    if !output.format().has_hints() {
+        return output.add(lits, &[]);
+    }
+    if hinter.find(clauses, lits).is_err() {
         return Err(LineStop::Memory);
-    };
-    output.put(&Line::Add(copy))
+    }
+    output.add(lits, hinter.hints())
 }
 
 impl<L: LineOut> Work<L> {
@@ -126,6 +140,7 @@ impl<L: LineOut> Work<L> {
             unheld: 0,
             clauses,
             units,
+            hinter: Hinter::new(alloc),
             stack: Stack::new(alloc),
             ended: false,
             lines: 0,
@@ -133,104 +148,9 @@ impl<L: LineOut> Work<L> {
         })
     }
 
-    /// The clauses alive, each with its number, in no particular order: unit clauses and tautologies too.
-    pub fn clauses(&self) -> &[(u64, Clause)]
-        ensures clauses { result.now ≡ self.now.clauses }
-        ensures work { IsWork self.now }
-    {
-        self.clauses.as_slice()
-    }
-
-    /// The units listed, each once, in the order in which they came.
-    pub fn units(&self) -> &[Lit]
-        ensures { result.now ≡ self.now.units }
-    {
-        self.units.as_slice()
-    }
-
-    /// Literals are on the variables 1 to this one: those of the formula, and after them those of `fresh`.
-    pub fn vars(&self) -> u32
-        ensures { result ≡ self.now.vars }
-    {
-        self.vars
-    }
-
-    /// No clause that is alive and not held has a variable above this one: 0 in a work on all clauses of a formula.
-    pub fn unheld_vars(&self) -> u32
-        ensures { result ≡ self.now.unheld }
-    {
-        self.unheld
-    }
-
-    /// What memory comes from.
-    pub fn alloc(&self) -> Global {
-        self.alloc
-    }
-
-    /// The clause with this number, if it is alive.
-    pub fn clause(&self, number: u64) -> Option<&Clause>
-        ensures some { IfSome result (λ clause. Contains self.now.clauses (number, clause.now)) }
-        ensures none { IfNone result ((c : List Literal) → Contains self.now.clauses (number, c) → ⊥) }
-        ensures work { IsWork self.now }
-    {
-        self.clauses.get(number)
-    }
-
-    /// The numbers of the clauses alive that hold the literal, and perhaps some of clauses that are not alive.
-    pub fn numbers_with(&self, lit: Lit) -> Result<Vec<u64>, LineStop>
-        requires on { IsOn self.now.vars lit }
-        ensures every { IfOk result (λ found. (n : ℕ) (c : List Literal) → Contains self.now.clauses (n, c) → has c lit ≡ true → Contains found.items n) }
-        ensures memory { IfErr result (λ stop. stop ≡ LineStop.Memory) }
-    {
-        match self.clauses.numbers_with(lit) {
-            Ok(found) => Ok(found),
-            Err(_) => Err(LineStop::Memory),
-        }
-    }
-
-    /// The numbers noted for the literal, in the order in which the clauses came: those of the clauses alive that hold it,
-    /// and perhaps some of clauses that are not alive. It takes no memory.
-    pub fn occurrences(&self, lit: Lit) -> &[u64]
-        requires on { IsOn self.now.vars lit }
-        ensures every { (n : ℕ) (c : List Literal) → Contains self.now.clauses (n, c) → has c lit ≡ true → Contains result.now n }
-    {
-        self.clauses.occurrences(lit)
-    }
-
-    /// The last number given to a clause, 0 before the first. No clause alive has a higher one.
-    pub fn last_number(&self) -> u64
-        ensures last { result ≡ self.now.output.last }
-        ensures low { result + 1 < 2 ^ 64 }
-        ensures work { IsWork self.now }
-    {
-        self.clauses.next_number() - 1
-    }
-
-    /// How many lines the log has. If it is as it was, no line was put.
-    pub fn line_count(&self) -> u64
-        ensures { result ≡ self.now.output.entries }
-    {
-        self.lines
-    }
-
-    /// Whether a literal of this variable is a unit: listed, or alive as a clause.
-    pub fn has_unit(&self, var: u32) -> bool
-        requires low { 1 ≤ var }
-        requires high { var ≤ self.now.vars }
-        requires few { var ≤ 2 ^ 30 }
-        ensures { result ≡ has_unit self.now var }
-    {
-        self.is_unit(Lit::new(var, false)) || self.is_unit(Lit::new(var, true))
-    }
-
-    fn is_unit(&self, lit: Lit) -> bool
-        requires { IsOn self.now.vars lit }
-        ensures { result ≡ is_unit self.now lit }
-    {
-        self.units.is_listed(lit) || self.clauses.is_alone(lit)
-    }
-
-    /// Adds a clause that follows by unit propagation. Answers its number. The empty clause ends the log.
+    /// Adds a clause that follows by unit propagation. Answers its number. The empty clause ends the log. If the proof has hints
+    /// they are found here: unit clauses count as given, then clauses are tried along what became false, and only what the last
+    /// false clause rests on is kept.
     pub fn add_rup(&mut self, lits: &[Lit]) -> Result<u64, LineStop>
         requires unspent { self.old.output.spent ≡ false }
         requires going { self.old.ended ≡ false }
@@ -238,7 +158,7 @@ impl<L: LineOut> Work<L> {
         requires no_opposites { has_opposites lits.now ≡ false }
         requires on { All (IsOn self.old.vars) lits.now }
         ensures added { WasAdded self.old self.new lits.now result }
-        ensures log { Continues (on_ok result (ruler_adds (self.old.output.last + 1) lits.now ∷ [])) self.old self.new }
+        ensures log { AddsToLog self.old self.new lits.now result }
         ensures work { IsWork self.new }
     {
         // The check knows the work's invariant once a field is used.
@@ -249,6 +169,7 @@ impl<L: LineOut> Work<L> {
     /// Puts the line that adds the clause, and keeps the clause under its number.
     fn put_clause(&mut self, lits: &[Lit]) -> Result<u64, LineStop>
         requires unspent { self.old.output.spent ≡ false }
+        requires rup { has_hints self.old.output.format ≡ true → (rup (known self.old) lits.now ≡ true) × (has_opposites lits.now ≡ false) }
         requires on { All (IsOn self.old.vars) lits.now }
         ensures { WasAdded self.old self.new lits.now result }
     {
@@ -258,7 +179,8 @@ impl<L: LineOut> Work<L> {
         if self.clauses.make_ready(clause.lits()).is_err() {
             return Err(LineStop::Memory);
         }
-        match add_line(self.alloc, &mut self.output, lits) {
+        let added = add_line(&self.clauses, &mut self.hinter, &mut self.output, lits);
+        match added {
             Ok(number) => {
                 self.ended = lits.is_empty();
                 self.lines += 1;
@@ -283,31 +205,18 @@ impl<L: LineOut> Work<L> {
         self.take_clause(number)
     }
 
-    /// The line that deletes the clause with this number.
-    fn deletion_of(&self, number: u64) -> Result<Line, LineStop>
-        requires alive { (c : List Literal) × Contains self.now.clauses (number, c) }
-        ensures line { IfOk result (λ x. (c : List Literal) × Contains self.now.clauses (number, c) × (x ≡ DelLine c)) }
-        ensures memory { IfErr result (λ stop. stop ≡ LineStop.Memory) }
-    {
-        let Some(clause) = self.clauses.get(number) else {
-            // `alive`: a clause has this number
-            unreachable!()
-        };
-        match Lits::from_slice(self.alloc, clause.lits()) {
-            Ok(lits) => Ok(Line::Del(lits)),
-            Err(_) => Err(LineStop::Memory),
-        }
-    }
-
     fn take_clause(&mut self, number: u64) -> Result<(), LineStop>
         requires unspent { self.old.output.spent ≡ false }
         requires alive { (c : List Literal) × Contains self.old.clauses (number, c) × (two_or_more c ≡ true) }
         ensures deleted { WasDeleted self.old self.new number result }
         ensures work { IsWork self.new }
     {
-        let line = self.deletion_of(number)?;
-        match self.output.put(&line) {
-            Ok(_) => {
+        let Some(clause) = self.clauses.get(number) else {
+            // `alive`: a clause has this number
+            unreachable!()
+        };
+        match self.output.del(number, clause.lits()) {
+            Ok(()) => {
                 self.lines += 1;
                 self.clauses.remove(number);
                 Ok(())
@@ -324,7 +233,7 @@ impl<L: LineOut> Work<L> {
         requires rup { rup (known self.old) (lit ∷ []) ≡ true }
         requires on { IsOn self.old.vars lit }
         ensures listed { WasListed self.old self.new lit result }
-        ensures log { Continues (on_ok result (unit_entries self.old lit)) self.old self.new }
+        ensures log { ListsInLog self.old self.new lit result }
         ensures work { IsWork self.new }
     {
         // The check knows the work's invariant once a field is used.
@@ -334,6 +243,7 @@ impl<L: LineOut> Work<L> {
 
     fn list(&mut self, lit: Lit) -> Result<(), LineStop>
         requires unspent { self.old.output.spent ≡ false }
+        requires rup { rup (known self.old) (lit ∷ []) ≡ true }
         requires going { self.old.ended ≡ false }
         requires on { IsOn self.old.vars lit }
         ensures listed { WasListed self.old self.new lit result }
@@ -355,7 +265,8 @@ impl<L: LineOut> Work<L> {
         if self.clauses.make_ready(clause.lits()).is_err() {
             return Err(LineStop::Memory);
         }
-        match add_line(self.alloc, &mut self.output, &[lit]) {
+        let added = add_line(&self.clauses, &mut self.hinter, &mut self.output, &[lit]);
+        match added {
             Ok(number) => {
                 self.lines += 1;
                 self.clauses.push(number, clause);

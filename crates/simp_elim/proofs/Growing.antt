@@ -5,7 +5,6 @@ use Rattle.std.specs.Prelude.{Result, Ok, Err}
 use Rattle.std.proofs.lemmas.Bool.{true≢false, or_left}
 use Rattle.sat_words.specs.Literal.{Literal, IsOn, same}
 use Rattle.sat_words.specs.Clause.{has, is_empty, InOrder}
-use Rattle.sat_words.specs.declared.line.Line.TheVariants.{Add as AddLine}
 use Rattle.sat_words.proofs.Insertion.{clause_of_in_order}
 use Rattle.sat_words.proofs.Members.{same-refl, same-true}
 use Rattle.rup_model.proofs.Growth.{rup_more}
@@ -19,7 +18,7 @@ use Rattle.simp_base.specs.Log.{KeepsLog}
 use Rattle.simp_base.proofs.Keeping.{only_told}
 use Rattle.simp_base.proofs.Known.{known_alive, unit_among, nothing_logged}
 use Rattle.simp_base.proofs.LiftSteps.{logs_along}
-use Rattle.simp_base.proofs.Stopping.{not_put_cause, cause_after}
+use Rattle.simp_base.proofs.Stopping.{not_added_cause, cause_after}
 use Rattle.simp_elim.specs.Stages.{GoesOn, Stops, Grown, WasGrown, CanCome}
 
 -- Works
@@ -152,9 +151,9 @@ pub came_added : (old mid : WorkState) (lits : List Literal) (number : ℕ) → 
 came_added old mid lits number unspent some ordered kept h log = record {
   on = record {
     going = ap (λ (w : WorkState). w.ended) h.state ∙ some;
-    unspent = ap (λ (s : LineState). s.spent) h.put.state ∙ unspent;
+    unspent = ap (λ (s : LineState). s.spent) h.line.put.state ∙ unspent;
     work = kept;
-    quiet = ap (λ (s : LineState). s.faults) h.put.state;
+    quiet = ap (λ (s : LineState). s.faults) h.line.put.state;
     vars = ap (λ (w : WorkState). w.vars) h.state;
     log = log;
   };
@@ -252,4 +251,4 @@ grown_unit old mid new k g h kept log =
 
 pub was_grown_unit : (old mid new : WorkState) (k : Literal) → Came old mid (k ∷ []) → IsWork new → KeepsLog mid new → (result : Result (Unit {0}) LineStop) → WasListed mid new k result → WasGrown old new ((k ∷ []) ∷ []) result
 was_grown_unit old mid new k g kept log (Ok done) h = grown_unit old mid new k g h kept log
-was_grown_unit old mid new k g kept log (Err stop) h = stopped_after old mid new stop g.on (not_put_cause mid new (AddLine (k ∷ [])) stop g.on.going h, log)
+was_grown_unit old mid new k g kept log (Err stop) h = stopped_after old mid new stop g.on (not_added_cause mid new (k ∷ []) stop g.on.going h, log)

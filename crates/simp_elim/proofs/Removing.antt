@@ -6,7 +6,7 @@ use Rattle.std.proofs.lemmas.Bool.{true≢false, and_from}
 use Rattle.std.proofs.lemmas.List.Folds.{list_all-append}
 use Rattle.std.proofs.lemmas.List.Sums.{sum_by-append}
 use Rattle.sat_words.specs.Literal.{Literal}
-use Rattle.sat_words.specs.declared.line.Line.TheVariants.{Del as DelLine}
+use Rattle.drat_text.specs.LineOut.{deleted_line}
 use Rattle.rup_model.proofs.Lists.{In_Contains, Contains_In}
 use Rattle.drat_text.specs.LineState.{LineState}
 use Rattle.drat_text.specs.declared.stop.LineStop.{LineStop}
@@ -102,7 +102,7 @@ module _ (old new : WorkState) (n : ℕ) (kept : IsWork old) (kept_new : IsWork 
 
   pub was_removed : (result : Result (Unit {0}) LineStop) → WasDeleted old new n result → WasRemoved old new (n ∷ []) result
   was_removed (Ok done) h = removed_one h
-  was_removed (Err stop) h = (not_put_cause old new (DelLine h.clause) stop going h.left, log)
+  was_removed (Err stop) h = (not_put_cause old new (deleted_line old.output _ h.clause) stop going h.left, log)
 
 -- one after another
 pub removed_along : (a b c : WorkState) (xs ys : List ℕ) → Removed a b xs → Removed b c ys → Removed a c (xs ++ ys)

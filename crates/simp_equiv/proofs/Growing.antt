@@ -5,7 +5,6 @@ use Rattle.std.specs.List.{Contains}
 use Rattle.std.specs.Prelude.{Result, Ok, Err}
 use Rattle.sat_words.specs.Literal.{Literal}
 use Rattle.sat_words.specs.Clause.{has, is_empty, clause_of}
-use Rattle.sat_words.specs.declared.line.Line.TheVariants.{Add as AddLine}
 use Rattle.sat_words.proofs.Insertion.{has-clause_of}
 use Rattle.rup_model.proofs.Lists.{In, In_has, has_In, In_append, In_append_left, In_append_right, map_In, Contains_In, In_Contains}
 use Rattle.drat_text.specs.LineState.{LineState}
@@ -15,7 +14,7 @@ use Rattle.simp_base.specs.Calls.{Added, IsListed, WasListed}
 use Rattle.simp_base.specs.Log.{KeepsLog}
 use Rattle.simp_base.proofs.Known.{known_alive, unit_among, nothing_logged, Grew, grew}
 use Rattle.simp_base.proofs.LiftSteps.{logs_along}
-use Rattle.simp_base.proofs.Stopping.{not_put_cause, cause_after}
+use Rattle.simp_base.proofs.Stopping.{not_added_cause, cause_after}
 use Rattle.simp_base.proofs.Lists.{Contains_left, Contains_last, Contains_apart}
 use Rattle.simp_equiv.specs.Rewritten.{GoesOn, Grown, WasGrown}
 use Rattle.simp_base.specs.Causes.{HasCause}
@@ -88,9 +87,9 @@ grown_added old new lits number unspent some kept h log =
     record {
       on = record {
         going = ap (λ (w : WorkState). w.ended) h.state ∙ some;
-        unspent = ap (λ (s : LineState). s.spent) h.put.state ∙ unspent;
+        unspent = ap (λ (s : LineState). s.spent) h.line.put.state ∙ unspent;
         work = kept;
-        quiet = ap (λ (s : LineState). s.faults) h.put.state;
+        quiet = ap (λ (s : LineState). s.faults) h.line.put.state;
         stack = ap (λ (w : WorkState). w.stack) h.state;
         vars = ap (λ (w : WorkState). w.vars) h.state;
         units = λ l i. ap (λ us. has us l) units ∙ i;
@@ -143,4 +142,4 @@ grown_listed old new l going unspent kept false e h log =
 
 pub was_listed : (old new : WorkState) (l : Literal) → old.ended ≡ false → old.output.spent ≡ false → IsWork new → KeepsLog old new → (result : Result (Unit {0}) LineStop) → WasListed old new l result → WasGrown old new (l ∷ []) result
 was_listed old new l going unspent kept log (Ok done) h = grown_listed old new l going unspent kept (has old.units l) refl h log
-was_listed old new l going unspent kept log (Err stop) h = (not_put_cause old new (AddLine (l ∷ [])) stop going h, log)
+was_listed old new l going unspent kept log (Err stop) h = (not_added_cause old new (l ∷ []) stop going h, log)

@@ -5,7 +5,7 @@ use Rattle.std.specs.Prelude.{Result, Ok, Err}
 use Rattle.std.proofs.lemmas.Bool.{and_parts, and_from, or_left, or_right, cases_Bool, true≢false, cases_lt}
 use Rattle.sat_words.specs.Literal.{Literal, same}
 use Rattle.sat_words.specs.Clause.{has, has_opposites, two_or_more}
-use Rattle.sat_words.specs.declared.line.Line.TheVariants.{Del as DelLine}
+use Rattle.drat_text.specs.LineOut.{deleted_line}
 use Rattle.sat_words.proofs.Members.{same-true, same-refl}
 use Rattle.rup_model.proofs.Lists.{In, any_In, In_any, In_has, has_In, In_map, map_In, Contains_In}
 use Rattle.drat_text.specs.LineState.{LineState}
@@ -184,7 +184,7 @@ module _ (old new : WorkState) (sin : Literal → Literal) (n : ℕ) (c : List L
 
   pub was_removed : (result : Result (Unit {0}) LineStop) → WasDeleted old new n result → WasRemoved old new sin n result
   was_removed (Ok done) h = removed h
-  was_removed (Err stop) h = (not_put_cause old new (DelLine h.clause) stop going h.left, log)
+  was_removed (Err stop) h = (not_put_cause old new (deleted_line old.output _ h.clause) stop going h.left, log)
 
 -- nothing is to be deleted
 pub removed_none : (w : WorkState) (sin : Literal → Literal) (n : ℕ) → w.ended ≡ false → w.output.spent ≡ false → IsWork w → IsReplacedAt w sin n false → Removed w w sin n

@@ -5,7 +5,6 @@ use Rattle.std.specs.Prelude.{Result, Ok, Err}
 use Rattle.std.proofs.lemmas.Bool.{cases_Bool, true≢false, false≢true}
 use Rattle.sat_words.specs.Literal.{Literal, IsOn, opposite, same}
 use Rattle.sat_words.specs.Clause.{has, has_opposites, is_empty, clause_of}
-use Rattle.sat_words.specs.declared.line.Line.TheVariants.{Add as AddLine}
 use Rattle.sat_words.proofs.Insertion.{has-clause_of}
 use Rattle.sat_words.proofs.Members.{same-true}
 use Rattle.rup_model.specs.Rup.{rup}
@@ -17,23 +16,23 @@ use Rattle.simp_base.specs.Calls.{Added, IsListed, WasListed}
 use Rattle.simp_base.specs.Log.{KeepsLog}
 use Rattle.simp_base.proofs.Known.{known_alive, on_alive, Grew, grew}
 use Rattle.simp_base.proofs.Lists.{Contains_left, Contains_last, Contains_apart}
-use Rattle.simp_base.proofs.Stopping.{not_put_cause}
+use Rattle.simp_base.proofs.Stopping.{not_added_cause}
 use Rattle.simp_base.proofs.Weaken.{strengthened_follows}
 use Rattle.simp_subsume.specs.Compared.{Strengthens, Grown, WasGrown, IsLoaded}
 use Rattle.simp_subsume.proofs.Relating.{refuted, opposed, part_parts, strengthens_parts, left_in, in_left, another}
 
 pub grown_added : (old new : WorkState) (lits : List Literal) (number : ℕ) → old.output.spent ≡ false → is_empty lits ≡ false → Added old new lits number → KeepsLog old new → Grown old new lits
 grown_added old new lits number unspent some h log =
-    let given : number ≡ old.output.last + 1 = h.put.given in
+    let given : number ≡ old.output.last + 1 = h.line.given in
     let clauses : new.clauses ≡ old.clauses ++ (number, clause_of lits) ∷ [] = ap (λ (w : WorkState). w.clauses) h.state in
     let units : new.units ≡ old.units = ap (λ (w : WorkState). w.units) h.state in
     record {
       going = ap (λ (w : WorkState). w.ended) h.state ∙ some;
-      unspent = ap (λ (s : LineState). s.spent) h.put.state ∙ unspent;
-      quiet = ap (λ (s : LineState). s.faults) h.put.state;
+      unspent = ap (λ (s : LineState). s.spent) h.line.put.state ∙ unspent;
+      quiet = ap (λ (s : LineState). s.faults) h.line.put.state;
       stack = ap (λ (w : WorkState). w.stack) h.state;
       vars = ap (λ (w : WorkState). w.vars) h.state;
-      later = (let e : new.output.last ≡ old.output.last + 1 = ap (λ (s : LineState). s.last) h.put.state in omega arith);
+      later = (let e : new.output.last ≡ old.output.last + 1 = ap (λ (s : LineState). s.last) h.line.put.state in omega arith);
       stay = λ n c i. subst (λ (cs : List (ℕ × List Literal)). Contains cs (n, c)) (sym clauses) (Contains_left old.clauses ((number, clause_of lits) ∷ []) (n, c) i);
       came = λ n c i. ⊎_elim
           (λ (k : Contains old.clauses (n, c)). inl k)
@@ -92,7 +91,7 @@ grown_listed old new l going unspent false e h log =
 
 pub was_listed : (old new : WorkState) (l : Literal) → old.ended ≡ false → old.output.spent ≡ false → KeepsLog old new → (result : Result (Unit {0}) LineStop) → WasListed old new l result → WasGrown old new (l ∷ []) result
 was_listed old new l going unspent log (Ok done) h = grown_listed old new l going unspent (has old.units l) refl h log
-was_listed old new l going unspent log (Err stop) h = (not_put_cause old new (AddLine (l ∷ [])) stop going h, log)
+was_listed old new l going unspent log (Err stop) h = (not_added_cause old new (l ∷ []) stop going h, log)
 
 -- What is left of a clause follows
 

@@ -4,7 +4,7 @@ use Rattle.std.specs.List.{Contains}
 use Rattle.std.specs.Prelude.{Result, Ok, Err}
 use Rattle.sat_words.specs.Literal.{Literal}
 use Rattle.sat_words.specs.Clause.{has, includes}
-use Rattle.sat_words.specs.declared.line.Line.TheVariants.{Del as DelLine}
+use Rattle.drat_text.specs.LineOut.{deleted_line}
 use Rattle.rup_model.proofs.Lists.{Contains_In}
 use Rattle.drat_text.specs.declared.stop.LineStop.{LineStop}
 use Rattle.simp_base.specs.WorkState.{WorkState, IsWork, known}
@@ -94,7 +94,7 @@ was_compared_going old new n m c d going unspent was kept log loaded alive ne s 
       came = λ q f i. inl ((h.others q f).0 i).0;
       stay = λ q f i other. (h.others q f).1 (i, other);
     }) t
-was_compared_going old new n m c d going unspent was kept log loaded alive ne s (Err stop) h = (not_put_cause old new (DelLine h.clause) stop going h.left, log)
+was_compared_going old new n m c d going unspent was kept log loaded alive ne s (Err stop) h = (not_put_cause old new (deleted_line old.output _ h.clause) stop going h.left, log)
 
 -- a part of the other clause came, and it goes
 module _ (old mid new : WorkState) (n m : ℕ) (c d rest : List Literal) (was : IsWork old) (kept_mid : IsWork mid) (kept : IsWork new) (log : KeepsLog mid new) (loaded : IsLoaded old n c) (alive : Contains old.clauses (m, d)) (ne : m ≢ n)
@@ -136,7 +136,7 @@ module _ (old mid new : WorkState) (n m : ℕ) (c d rest : List Literal) (was : 
 
   pub was_compared_shrinking : (result : Result (Unit {0}) LineStop) → WasDeleted mid new m result → WasCompared old new n c m result
   was_compared_shrinking (Ok done) h = λ start numbers t. compared_replaced start old new n m c d numbers was s.part alive ne (replaced h) t
-  was_compared_shrinking (Err stop) h = (cause_after old mid new stop g.quiet (not_put_cause mid new (DelLine h.clause) stop g.going h.left), logs_along old mid new g.log log)
+  was_compared_shrinking (Err stop) h = (cause_after old mid new stop g.quiet (not_put_cause mid new (deleted_line mid.output _ h.clause) stop g.going h.left), logs_along old mid new g.log log)
 
 -- Clauses one after another
 

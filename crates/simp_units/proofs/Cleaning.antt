@@ -6,7 +6,7 @@ use Rattle.std.proofs.lemmas.Bool.Decides.{nat_tests}
 use Rattle.std.proofs.lemmas.List.{map-append}
 use Rattle.std.specs.Prelude.{Result, Ok, Err}
 use Rattle.sat_words.specs.Literal.{Literal, IsOn, opposite, same}
-use Rattle.sat_words.specs.declared.line.Line.TheVariants.{Del as DelLine}
+use Rattle.drat_text.specs.LineOut.{deleted_line}
 use Rattle.sat_words.specs.Clause.{has, includes, has_opposites, clause_of, is_empty}
 use Rattle.sat_words.proofs.Insertion.{has-clause_of}
 use Rattle.sat_words.specs.Values.{is_true, is_value, value_of}
@@ -209,12 +209,12 @@ tidied_added start old new a numbers lits made h plain settled some untouched ke
       same = λ l. ap (λ us. has us l) units ∙ t.set.same l;
       range = t.set.range ∙ ap (λ v. v + 1) (sym (ap (λ (w : WorkState). w.vars) h.state));
       going = ap (λ (w : WorkState). w.ended) h.state ∙ some;
-      unspent = ap (λ (s : LineState). s.spent) h.put.state ∙ t.set.unspent;
+      unspent = ap (λ (s : LineState). s.spent) h.line.put.state ∙ t.set.unspent;
       work = kept;
     } in
     record {
       set = set;
-      quiet = ap (λ (s : LineState). s.faults) h.put.state ∙ t.quiet;
+      quiet = ap (λ (s : LineState). s.faults) h.line.put.state ∙ t.quiet;
       units = units ∙ t.units;
       lifted = lifted_along start old new t.lifted (lifted_added old new lits made h);
       passed = λ n c both. (
@@ -317,7 +317,7 @@ tidied_nothing old new a number c s alive plain holds kept log (Ok done) h =
     let u = In_any (is_true a) c holds in
     let same_clause : c ≡ h.clause = same_number old.clauses s.work.numbers number c h.clause alive h.alive in
     λ start rest t. tidied_deleted start old new a number rest h (ap has_opposites (sym same_clause) ∙ plain) (lifted_true old new a s number h u.0 (subst (λ d. has d u.0 ≡ true) same_clause (In_has c u.0 u.1)) u.2) kept log t
-tidied_nothing old new a number c s alive plain holds kept log (Err stop) h = (not_put_cause old new (DelLine h.clause) stop s.going h.left, log)
+tidied_nothing old new a number c s alive plain holds kept log (Err stop) h = (not_put_cause old new (deleted_line old.output _ h.clause) stop s.going h.left, log)
 
 -- what is left was added, and the clause was to be deleted
 module _ (old mid new : WorkState) (a : List (Option Bool)) (number : ℕ) (c lits : List Literal) (made : ℕ) (s : IsSet old a) (alive : Contains old.clauses (number, c)) (part : IsPart a c lits) (settled : IsSettled a c)
@@ -329,7 +329,7 @@ module _ (old mid new : WorkState) (a : List (Option Bool)) (number : ℕ) (c li
   made_mid = subst (λ (cs : List (ℕ × List Literal)). Contains cs (made, clause_of lits)) (sym (ap (λ (w : WorkState). w.clauses) added.state)) (Contains_last old.clauses (made, clause_of lits))
 
   apart : made ≢ number
-  apart e = let g = All_In (λ (x : ℕ × List Literal). x.0 ≤ old.output.last) old.clauses (number, c) s.work.given (Contains_In old.clauses (number, c) alive) in let n = added.put.given in omega arith
+  apart e = let g = All_In (λ (x : ℕ × List Literal). x.0 ≤ old.output.last) old.clauses (number, c) s.work.given (Contains_In old.clauses (number, c) alive) in let n = added.line.given in omega arith
 
   shown : IsSettled a lits
   shown = subst (IsSettled a) (sym part.is) (left_settled a c settled)
@@ -345,7 +345,7 @@ module _ (old mid new : WorkState) (a : List (Option Bool)) (number : ℕ) (c li
       λ start rest t. tidied_deleted start mid new a number rest h (ap has_opposites (sym same_clause) ∙ part.no_opposites) lifted kept log
       (tidied_added start old mid a (number ∷ rest) lits made added plain shown (ap is_empty part.is ∙ left_some a c settled)
       (λ l k. part_untouched old a s number c alive part.open_yet l (subst (λ d. has d l ≡ true) part.is k)) kept_mid log_mid t)
-  tidied_part (Err stop) h = (cause_after old mid new stop (ap (λ (s : LineState). s.faults) added.put.state) (not_put_cause mid new (DelLine h.clause) stop (ap (λ (w : WorkState). w.ended) added.state ∙ ap is_empty part.is ∙ left_some a c settled) h.left), logs_along old mid new log_mid log)
+  tidied_part (Err stop) h = (cause_after old mid new stop (ap (λ (s : LineState). s.faults) added.line.put.state) (not_put_cause mid new (deleted_line mid.output _ h.clause) stop (ap (λ (w : WorkState). w.ended) added.state ∙ ap is_empty part.is ∙ left_some a c settled) h.left), logs_along old mid new log_mid log)
 
 -- a call in the middle was refused
 pub stopped_tidying : (start now new : WorkState) (a : List (Option Bool)) (rest : List ℕ) (stop : LineStop) → Tidied start now a rest → HasCause now new stop × KeepsLog now new → HasCause start new stop × KeepsLog start new

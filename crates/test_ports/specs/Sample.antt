@@ -65,7 +65,7 @@ put_first = record { ring = 1; class = 0; place = 0; address = 1 }
 
 -- as many lemmas as a reduction needs
 pub enough : List Entry
-enough = map (λ n. Add (record { ring = 0; number = n; lits = []; kind = Learn })) (range_with_len 4 LEARNED_PER_REDUCTION)
+enough = map (λ n. Add (record { ring = 0; number = n; lits = []; kind = Learn; hints = [] })) (range_with_len 4 LEARNED_PER_REDUCTION)
 
 -- the port at its stages: at 1 the first clause was learned last, at 2 it was offered, and at 3 enough was learned to reduce; before
 -- and after the ticket was drawn

@@ -1,5 +1,5 @@
 -- What a ring writes leaves a journal that the ruler can go on from.
-use Rattle.std.proofs.Common.{◌≡◌, ◌≢◌, ◌∙◌, ◌||◌, ℕ, zero, suc, ◌+◌, ◌<◌, ◌≤◌, Bool, true, false, not, List, [], ◌∷◌, ◌++◌, length, get_or, Some, None, refl, sym, ap, subst, inl, inr, ⊎_elim, arith, Contains, append_assoc, append-nil, length-append}
+use Rattle.std.proofs.Common.{◌≡◌, ◌≢◌, ◌∙◌, ◌||◌, ℕ, zero, suc, ◌+◌, ◌<◌, true, false, not, List, [], ◌∷◌, ◌++◌, length, get_or, Some, None, refl, sym, ap, subst, inl, inr, ⊎_elim, arith, Contains, append_assoc, append-nil, length-append}
 use Rattle.std.specs.List.{All, list_any}
 use Rattle.std.specs.Option.{option_map}
 use Rattle.std.proofs.lemmas.Bool.{and_parts, true≢false, false≢true}
@@ -7,7 +7,7 @@ use Rattle.std.proofs.lemmas.List.Elements.{All-append}
 use Rattle.std.proofs.lemmas.List.Folds.{list_any-append}
 use Rattle.sat_words.specs.Literal.{Literal, IsOn}
 use Rattle.sat_words.specs.Clause.{same_set, is_empty, has_opposites, clause_of, two_or_more}
-use Rattle.sat_words.specs.declared.line.Line.TheVariants.{Add as AddLine, Del as DelLine}
+use Rattle.sat_words.specs.Formats.{has_hints}
 use Rattle.rup_model.specs.declared.journal.Addition.{Addition}
 use Rattle.rup_model.specs.declared.journal.Entry.{Entry}
 use Rattle.rup_model.specs.declared.journal.Entry.TheVariants.{Add, Del}
@@ -15,10 +15,10 @@ use Rattle.rup_model.specs.declared.journal.Kind.TheVariants.{Learn}
 use Rattle.rup_model.specs.Basics.{put}
 use Rattle.rup_model.specs.Rup.{rup}
 use Rattle.rup_model.specs.Log.{alive}
-use Rattle.rup_model.specs.Journal.{Book, book, lines, added, ended, is_told}
-use Rattle.rup_model.proofs.Lists.{In, In_append_left, In_map, map_In, Contains_In, In_Contains}
+use Rattle.rup_model.specs.NumberedLines.{Added, Deleted}
+use Rattle.rup_model.specs.Journal.{Book, book, lines, added, is_told}
+use Rattle.rup_model.proofs.Lists.{In_append_left, map_In, In_Contains}
 use Rattle.rup_model.proofs.Sums.{put_here, put_else, at_put}
-use Rattle.rup_model.proofs.Covers.{same_back, same_has}
 use Rattle.rup_model.proofs.Units.{unit_short, two_same}
 use Rattle.rup_model.proofs.Additions.{added-append, told_more}
 use Rattle.rup_model.proofs.Numbers.{journal_matches, clause_below, book_last, rup_alive_sets}
@@ -67,9 +67,9 @@ module _ (F : List (List Literal)) (vars : ℕ) (cells : List (ℕ × List Liter
   -- A lemma
 
   module _ (lits : List Literal) (number : ℕ) (next : number ≡ out.last + 1) (follows : rup (lists cells) lits ≡ true) (two : two_or_more lits ≡ true) (on : All (IsOn vars) lits)
-      (new : LineState) (entries : new.entries ≡ out.entries + 1) (last : new.last ≡ out.last + 1) where
+      (new : LineState) (entries : new.entries ≡ out.entries + 1) (last : new.last ≡ out.last + 1) (plain : has_hints new.format ≡ false) where
     abbrev x : Addition
-    x = record { ring = 0; number = number; lits = lits; kind = Learn }
+    x = record { ring = 0; number = number; lits = lits; kind = Learn; hints = [] }
 
     abbrev K : List Entry
     K = J ++ Add x ∷ []
@@ -120,6 +120,7 @@ module _ (F : List (List Literal)) (vars : ℕ) (cells : List (ℕ × List Liter
     pub learned_resumes : Resumes F vars more units stack new K
     learned_resumes = record {
       sound = log_adds F J r.sound x number_is (follows_alive lits follows) (not_added F J r.going);
+      hinted = λ h. absurd (true≢false (sym h ∙ plain));
       going =
           ap (λ (G : List (List Literal)). list_any is_empty (F ++ G)) added_is ∙ ap (list_any is_empty) (sym (append_assoc F (added J) (lits ∷ [])))
           ∙ list_any-append is_empty (F ++ added J) (lits ∷ []) ∙ ap (λ b. b || (is_empty lits || false)) r.going ∙ not_empty lits two;
@@ -129,6 +130,7 @@ module _ (F : List (List Literal)) (vars : ℕ) (cells : List (ℕ × List Liter
       told = λ k d lt. told_more F J (Add x ∷ []) (get_or units k d) (r.told k d lt);
       every = λ l t. r.every l (still_told l t);
       distinct = r.distinct;
+      units_held = λ h. absurd (true≢false (sym h ∙ plain));
       on = subst (λ (G : List (List Literal)). All (All (IsOn vars)) G) (append_assoc F (added J) (lits ∷ []) ∙ ap (λ (G : List (List Literal)). F ++ G) (sym added_is))
           (All-append (All (IsOn vars)) (F ++ added J) (lits ∷ []) r.on (one_All (All (IsOn vars)) lits on));
       stack_on = r.stack_on;
@@ -138,7 +140,7 @@ module _ (F : List (List Literal)) (vars : ℕ) (cells : List (ℕ × List Liter
 
   -- A deletion
 
-  module _ (rest : List (ℕ × List Literal)) (n : ℕ) (c : List Literal) (are : cells ≡ rest ++ (n, c) ∷ []) (two : two_or_more c ≡ true) (new : LineState) (entries : new.entries ≡ out.entries + 1) (last : new.last ≡ out.last) where
+  module _ (rest : List (ℕ × List Literal)) (n : ℕ) (c : List Literal) (are : cells ≡ rest ++ (n, c) ∷ []) (two : two_or_more c ≡ true) (new : LineState) (entries : new.entries ≡ out.entries + 1) (last : new.last ≡ out.last) (plain : has_hints new.format ≡ false) where
     abbrev D : List Entry
     D = J ++ Del 0 n ∷ []
 
@@ -183,6 +185,7 @@ module _ (F : List (List Literal)) (vars : ℕ) (cells : List (ℕ × List Liter
     pub deleted_resumes : Resumes F vars rest units stack new D
     deleted_resumes = record {
       sound = log_dels F J r.sound 0 n there.0 there.1 (two_same c there.0 (order_same c there.0 there.2) two) (not_added F J r.going);
+      hinted = λ h. absurd (true≢false (sym h ∙ plain));
       going = ap (λ (G : List (List Literal)). list_any is_empty (F ++ G)) added_same ∙ r.going;
       numbers = own_rest rest ((n, c) ∷ []) (subst HaveOwnNumbers are r.numbers);
       held = λ m d i. (ap (option_map clause_of) (book_less m ∙ put_else (book F J).clause n None m (apart m d i)) ∙ r.held m d (left m d i));
@@ -194,6 +197,7 @@ module _ (F : List (List Literal)) (vars : ℕ) (cells : List (ℕ × List Liter
       told = λ k d lt. told_more F J (Del 0 n ∷ []) (get_or units k d) (r.told k d lt);
       every = λ l t. r.every l (subst (λ (G : List (List Literal)). list_any (same_set (l ∷ [])) (F ++ G) ≡ true) added_same t);
       distinct = r.distinct;
+      units_held = λ h. absurd (true≢false (sym h ∙ plain));
       on = subst (λ (G : List (List Literal)). All (All (IsOn vars)) (F ++ G)) (sym added_same) r.on;
       stack_on = r.stack_on;
       entries = (let k = r.entries in let m = length-append J (Del 0 n ∷ []) in omega arith);
@@ -209,15 +213,16 @@ on_front : (vars : ℕ) (cells : List (ℕ × List Literal)) (x : ℕ × List Li
 on_front vars cells x each = In_All (λ (y : ℕ × List Literal). All (IsOn vars) y.1) cells (λ y i. All_In (λ (z : ℕ × List Literal). All (IsOn vars) z.1) (cells ++ x ∷ []) y each (In_append_left cells (x ∷ []) y i))
 
 module _ (F : List (List Literal)) (s t : Simplified) (out new : LineState) (can : CanGoOn F s out) (vars : t.vars ≡ s.vars) (units : t.units.items ≡ s.units.items) (stack : t.stack ≡ s.stack) where
-  can_with : (cells : List (ℕ × List Literal)) → t.start.items ≡ cells → All (λ (x : ℕ × List Literal). All (IsOn s.vars) x.1) cells → new.spent ≡ out.spent
+  can_with : (cells : List (ℕ × List Literal)) → t.start.items ≡ cells → All (λ (x : ℕ × List Literal). All (IsOn s.vars) x.1) cells → new.spent ≡ out.spent → new.format ≡ out.format
       → (K : List Entry) → Resumes F s.vars cells s.units.items s.stack new K → CanGoOn F t new
-  can_with cells start on still K r = record {
+  can_with cells start on still same K r = record {
     on = record {
       start = subst (λ (xs : List (ℕ × List Literal)). All (λ (x : ℕ × List Literal). All (IsOn t.vars) x.1) xs) (sym start) (subst (λ (v : ℕ). All (λ (x : ℕ × List Literal). All (IsOn v) x.1) cells) (sym vars) on);
       units = subst (λ (ls : List Literal). All (IsOn t.vars) ls) (sym units) (subst (λ (v : ℕ). All (IsOn v) s.units.items) (sym vars) can.on.units);
       stack = subst (λ (S : List Fix). All (IsFixOn t.vars) S) (sym stack) (subst (λ (v : ℕ). All (IsFixOn v) s.stack) (sym vars) can.on.stack);
     };
     unspent = still ∙ can.unspent;
+    plain = ap has_hints same ∙ can.plain;
     resumes = (
       K,
       subst (λ (v : ℕ). Resumes F v t.start.items t.units.items t.stack new K) (sym vars)
@@ -228,23 +233,24 @@ module _ (F : List (List Literal)) (s t : Simplified) (out new : LineState) (can
   }
 
   -- once a ring learned a clause
-  pub learned_can : (lits : List Literal) (number : ℕ) → PutLine out new (AddLine lits) number → t.start.items ≡ s.start.items ++ (number, clause_of lits) ∷ []
+  pub learned_can : (lits : List Literal) (number : ℕ) → PutLine out new (Added (out.last + 1) lits []) → number ≡ out.last + 1 → t.start.items ≡ s.start.items ++ (number, clause_of lits) ∷ []
       → rup (lists s.start.items) lits ≡ true → takes_part (clause_of lits) ≡ true → All (IsOn s.vars) lits → CanGoOn F t new
-  learned_can lits number line start follows part on =
+  learned_can lits number line given start follows part on =
       let r = can.resumes in
       let two : two_or_more lits ≡ true = sym (two_in_order lits) ∙ (and_parts (two_or_more (clause_of lits)) (not (has_opposites (clause_of lits))) part).0 in
       can_with (s.start.items ++ (number, clause_of lits) ∷ []) start (on_of s.vars s.start.items number (clause_of lits) can.on.start (clause_of_on s.vars lits on))
-      (ap (λ (x : LineState). x.spent) line.state) (r.0 ++ Add (record { ring = 0; number = number; lits = lits; kind = Learn }) ∷ [])
-      (learned_resumes F s.vars s.start.items s.units.items s.stack out r.0 r.1 lits number line.given follows two on new (ap (λ (x : LineState). x.entries) line.state) (ap (λ (x : LineState). x.last) line.state))
+      (ap (λ (x : LineState). x.spent) line.state) (ap (λ (x : LineState). x.format) line.state) (r.0 ++ Add (record { ring = 0; number = number; lits = lits; kind = Learn; hints = [] }) ∷ [])
+      (learned_resumes F s.vars s.start.items s.units.items s.stack out r.0 r.1 lits number given follows two on new (ap (λ (x : LineState). x.entries) line.state) (ap (λ (x : LineState). x.last) line.state)
+      (ap (λ (x : LineState). has_hints x.format) line.state ∙ can.plain))
 
   -- once a ring deleted the last clause
-  pub deleted_can : (c : List Literal) (n : ℕ) → PutLine out new (DelLine c) 0 → s.start.items ≡ t.start.items ++ (n, c) ∷ [] → takes_part c ≡ true → CanGoOn F t new
+  pub deleted_can : (c : List Literal) (n : ℕ) → PutLine out new (Deleted out.last n c) → s.start.items ≡ t.start.items ++ (n, c) ∷ [] → takes_part c ≡ true → CanGoOn F t new
   deleted_can c n line start part =
       let r = can.resumes in
       can_with t.start.items refl (on_front s.vars t.start.items (n, c) (subst (λ (xs : List (ℕ × List Literal)). All (λ (x : ℕ × List Literal). All (IsOn s.vars) x.1) xs) start can.on.start))
-      (ap (λ (x : LineState). x.spent) line.state) (r.0 ++ Del 0 n ∷ [])
+      (ap (λ (x : LineState). x.spent) line.state) (ap (λ (x : LineState). x.format) line.state) (r.0 ++ Del 0 n ∷ [])
       (deleted_resumes F s.vars s.start.items s.units.items s.stack out r.0 r.1 t.start.items n c start (and_parts (two_or_more c) (not (has_opposites c)) part).0 new
-      (ap (λ (x : LineState). x.entries) line.state) (ap (λ (x : LineState). x.last) line.state))
+      (ap (λ (x : LineState). x.entries) line.state) (ap (λ (x : LineState). x.last) line.state) (ap (λ (x : LineState). has_hints x.format) line.state ∙ can.plain))
 
 -- with nothing on the stack
 pub unstacked_can : (F : List (List Literal)) (s t : Simplified) (out : LineState) → CanGoOn F s out → t.vars ≡ s.vars → t.start.items ≡ s.start.items → t.units.items ≡ s.units.items → t.stack ≡ [] → CanGoOn F t out
@@ -255,6 +261,7 @@ unstacked_can F s t out can vars start units stack = record {
     stack = subst (λ (S : List Fix). All (IsFixOn t.vars) S) (sym stack) (λ k d lt. absurd (omega arith));
   };
   unspent = can.unspent;
+  plain = can.plain;
   resumes = (
     can.resumes.0,
     subst (λ (v : ℕ). Resumes F v t.start.items t.units.items t.stack out can.resumes.0) (sym vars)
@@ -270,6 +277,7 @@ unstacked_can F s t out can vars start units stack = record {
     none : Resumes F s.vars s.start.items s.units.items [] out can.resumes.0
     none = record {
       sound = r.sound;
+      hinted = r.hinted;
       going = r.going;
       numbers = r.numbers;
       held = r.held;
@@ -277,6 +285,7 @@ unstacked_can F s t out can vars start units stack = record {
       told = r.told;
       every = r.every;
       distinct = r.distinct;
+      units_held = r.units_held;
       on = r.on;
       stack_on = λ k d lt. absurd (omega arith);
       entries = r.entries;

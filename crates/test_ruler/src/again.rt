@@ -1,5 +1,6 @@
 // `again` of `ruler_simp`: the ruler goes on with what it left of small formulas.
 ghost use Rattle.std.specs.Prelude.{◌≡◌, false, All, length, Ok, IfOk};
+ghost use Rattle.sat_words.specs.Formats.{has_hints};
 ghost use Rattle.sat_words.specs.Literal.{IsOn};
 ghost use Rattle.ruler_simp.specs.declared.ruling.Simplified.{Simplified};
 ghost use Rattle.ruler_simp.specs.declared.ruling.Outcome.TheVariants.{Simplified as LeftOver};
@@ -37,6 +38,7 @@ fn begin(
     lines: Written,
 ) -> (Result<Outcome, LineStop>, Written)
     requires unspent { lines.spent ≡ false }
+    requires plain { has_hints lines.format ≡ false }
     requires blank { lines.entries ≡ 0 }
     requires last { lines.last ≡ length formula.now.clauses }
     requires on { All (All (IsOn formula.now.vars)) formula.now.clauses }
@@ -80,6 +82,7 @@ fn simplify_twice(
     lines: Written,
 ) -> (Result<Outcome, LineStop>, Written)
     requires unspent { lines.spent ≡ false }
+    requires plain { has_hints lines.format ≡ false }
     requires blank { lines.entries ≡ 0 }
     requires last { lines.last ≡ length formula.now.clauses }
     requires on { All (All (IsOn formula.now.vars)) formula.now.clauses }
@@ -250,7 +253,7 @@ fn a_ring_writes_between_runs(rt: HostRuntime) -> Result<(), Fail> {
     let (left, lines) = learn(alloc, &formula, left, lines, lemma.as_slice())?;
     let other = literals(alloc, VARS, &[1, -6])?;
     let (left, lines) = learn(alloc, &formula, left, lines, other.as_slice())?;
-    let (left, lines) = delete_last(alloc, &formula, left, lines)?;
+    let (left, lines) = delete_last(&formula, left, lines)?;
     assert!(rt; makes_a_model(alloc, &formula, left, lines, (false, false))?);
     Ok(())
 }
@@ -269,7 +272,7 @@ fn a_lemma_is_deleted_in_order(rt: HostRuntime) -> Result<(), Fail> {
     let (left, lines) = learn(alloc, &formula, left, lines, lemma.as_slice())?;
     let other = literals(alloc, VARS, &[2, 4])?;
     let (left, lines) = learn(alloc, &formula, left, lines, other.as_slice())?;
-    let (left, lines) = delete_last(alloc, &formula, left, lines)?;
+    let (left, lines) = delete_last(&formula, left, lines)?;
     assert!(rt; numbers_of(alloc, &left)?.as_slice() == [1, 2, 3, 4].as_slice());
     let (left, lines) = next_run(alloc, &formula, left, lines, false)?;
     assert!(rt; left.start.is_empty() && left.units.is_empty());

@@ -13,6 +13,8 @@ pub use models::{ASSIGNMENTS, assignment_of, has_no_model, is_model_of, models_l
 #[cfg(test)]
 mod again;
 #[cfg(test)]
+mod hinted;
+#[cfg(test)]
 mod plain;
 #[cfg(test)]
 mod ring_entries;

@@ -8,7 +8,7 @@ use drat_text::LineOut;
 use model_stack::Stack;
 use ruler_simp::Simplified;
 use rup_model::is_rup;
-use sat_words::{Clause, Formula, Line, Lit, Lits};
+use sat_words::{Clause, Formula, Lit};
 use simp_base::takes_part;
 use std::alloc::Global;
 use std::test::Fail;
@@ -38,9 +38,8 @@ pub(crate) fn learn(
     if !takes_part(&clause) || !are_on(left.vars, lits) || !is_rup(alloc, alive.as_slice(), lits)? {
         return Err("no lemma".into());
     }
-    let line = Line::Add(Lits::from_slice(alloc, lits)?);
     let mut lines = lines;
-    let Ok(number) = lines.put(&line) else {
+    let Ok(number) = lines.add(lits, &[]) else {
         return Err("no line".into());
     };
     let Simplified {
@@ -62,7 +61,6 @@ pub(crate) fn learn(
 
 /// A ring deletes the last of the clauses that are left.
 pub(crate) fn delete_last(
-    alloc: Global,
     formula: &Formula,
     left: Simplified,
     lines: Written,
@@ -79,15 +77,14 @@ pub(crate) fn delete_last(
         stack,
     } = left;
     let mut start = start;
-    let Some((_number, clause)) = start.pop() else {
+    let Some((number, clause)) = start.pop() else {
         return Err("no clause".into());
     };
     if !takes_part(&clause) {
         return Err("a unit or a tautology".into());
     }
-    let line = Line::Del(Lits::from_slice(alloc, clause.lits())?);
     let mut lines = lines;
-    let Ok(_) = lines.put(&line) else {
+    let Ok(()) = lines.del(number, clause.lits()) else {
         return Err("no line".into());
     };
     let left = Simplified {

@@ -3,7 +3,7 @@ ghost use Rattle.std.specs.Prelude.{◌≡◌};
 
 use drat_text::{LineOut, LineStop, SinkLines};
 use io_edge::MemSink;
-use sat_words::Line;
+use sat_words::{Lit, ProofFormat};
 use simp_base::LogEnd;
 use std::marker::Model;
 
@@ -64,15 +64,26 @@ impl<L: LineOut> Tallied<L> {
 impl<L: LineOut> LineOut for Tallied<L> {
     ghost told = { λ t. t };
 
-    fn put(&mut self, line: &Line) -> Result<u64, LineStop> {
-        let number = match self.lines.put(line) {
+    fn format(&self) -> ProofFormat {
+        self.lines.format()
+    }
+
+    fn add(&mut self, lits: &[Lit], hints: &[u64]) -> Result<u64, LineStop> {
+        let number = match self.lines.add(lits, hints) {
             Ok(number) => number,
             Err(stop) => return Err(stop),
         };
         self.end.entries += 1;
-        if let Line::Add(_) = line {
-            self.end.last = number;
-        }
+        self.end.last = number;
         Ok(number)
+    }
+
+    fn del(&mut self, number: u64, lits: &[Lit]) -> Result<(), LineStop> {
+        match self.lines.del(number, lits) {
+            Ok(()) => {}
+            Err(stop) => return Err(stop),
+        }
+        self.end.entries += 1;
+        Ok(())
     }
 }

@@ -1,9 +1,10 @@
 //! The lines of a log in memory.
-ghost use Rattle.std.specs.Prelude.{◌≡◌, IfOk};
+ghost use Rattle.std.specs.Prelude.{◌≡◌, ◌<◌, ◌-◌, ◌^◌, false, vec_len};
+ghost use Rattle.sat_words.specs.declared.shared.TheConstants.{MAX_ENTRIES};
 
 use drat_text::{LineOut, LineStop};
-use sat_words::{Line, Lits, MAX_ENTRIES};
-use std::alloc::{AllocError, Global};
+use sat_words::{Line, Lit, Lits, MAX_ENTRIES, ProofFormat};
+use std::alloc::Global;
 
 /// The lines of a log in memory, after those that a formula's clauses have the numbers of.
 #[derive(Drop)]
@@ -16,12 +17,12 @@ pub struct ListLines {
     pub last: u64,
 }
 
-fn copy_of(alloc: Global, line: &Line) -> Result<Line, AllocError>
-    ensures { IfOk result (λ copy. copy ≡ line.now) }
-{
-    match line {
-        Line::Add(lits) => Ok(Line::Add(Lits::from_slice(alloc, lits.as_slice())?)),
-        Line::Del(lits) => Ok(Line::Del(Lits::from_slice(alloc, lits.as_slice())?)),
+impl ListLines {
+    /// Whether no line may follow: as many stand as can, or no number is left.
+    fn is_full(&self) -> bool
+        ensures { (result ≡ false) → (vec_len self.now.lines < MAX_ENTRIES) × (self.now.last < 2 ^ 64 - 1) }
+    {
+        self.lines.len() as u64 >= MAX_ENTRIES || self.last == u64::MAX
     }
 }
 
@@ -33,22 +34,36 @@ impl LineOut for ListLines {
     // It says the text of the lines, and keeps them.
     ghost told = { λ l. record { format = Text; entries = vec_len l.lines; last = l.last; spent = false; faults = 0; written = Some (text l.lines.items); target = None; flushed = None; kept = Some l.lines.items } };
 
-    fn put(&mut self, line: &Line) -> Result<u64, LineStop> {
-        if self.lines.len() as u64 >= MAX_ENTRIES || self.last == u64::MAX {
+    fn format(&self) -> ProofFormat {
+        // so that the proof sees what the lines are
+        let _ = &self.last;
+        ProofFormat::Text
+    }
+
+    fn add(&mut self, lits: &[Lit], _hints: &[u64]) -> Result<u64, LineStop> {
+        if self.is_full() {
             return Err(LineStop::Memory);
         }
-        let Ok(copy) = copy_of(self.alloc, line) else {
+        let Ok(copy) = Lits::from_slice(self.alloc, lits) else {
             return Err(LineStop::Memory);
         };
-        if self.lines.push(copy).is_err() {
+        if self.lines.push(Line::Add(copy)).is_err() {
             return Err(LineStop::Memory);
         }
-        match line {
-            Line::Add(_) => {
-                self.last += 1;
-                Ok(self.last)
-            }
-            Line::Del(_) => Ok(0),
+        self.last += 1;
+        Ok(self.last)
+    }
+
+    fn del(&mut self, _number: u64, lits: &[Lit]) -> Result<(), LineStop> {
+        if self.is_full() {
+            return Err(LineStop::Memory);
         }
+        let Ok(copy) = Lits::from_slice(self.alloc, lits) else {
+            return Err(LineStop::Memory);
+        };
+        if self.lines.push(Line::Del(copy)).is_err() {
+            return Err(LineStop::Memory);
+        }
+        Ok(())
     }
 }

@@ -2,6 +2,7 @@
 ghost use Rattle.std.specs.Prelude.{◌≡◌, ◌∷◌, [], true, false, All, IfOk};
 ghost use Rattle.sat_words.specs.Literal.{IsOn};
 ghost use Rattle.sat_words.specs.Clause.{has_opposites, is_empty};
+ghost use Rattle.sat_words.specs.declared.line.ProofFormat.TheVariants.{Text};
 
 use crate::{follows, formula_of, is_on, is_rat_there, literals, text_work};
 use drat_text::{CountedLines, SinkLines};
@@ -85,10 +86,11 @@ fn each_call_goes_well(rt: HostRuntime) -> Result<(), Fail> {
 /// Adds the clause of these literals by a line that is RAT on the first of them.
 fn adds_by_rat(alloc: Global, work: &mut Written, lits: &[Lit]) -> Result<bool, Fail>
     requires unspent { work.old.output.spent ≡ false }
+    requires plain { work.old.output.format ≡ Text }
     requires going { work.old.ended ≡ false }
     requires on { All (IsOn work.old.vars) lits.now }
     requires more { is_empty lits.now ≡ false }
-    ensures { IfOk result (λ yes. yes ≡ true → (work.new.output.spent ≡ false) × (work.new.ended ≡ false) × (work.new.vars ≡ work.old.vars)) }
+    ensures { IfOk result (λ yes. yes ≡ true → (work.new.output.spent ≡ false) × (work.new.output.format ≡ Text) × (work.new.ended ≡ false) × (work.new.vars ≡ work.old.vars)) }
 {
     if lits[0].var() <= work.unheld_vars() {
         return Ok(false);
@@ -102,6 +104,7 @@ fn adds_by_rat(alloc: Global, work: &mut Written, lits: &[Lit]) -> Result<bool, 
 /// A variable that stands for a clause of two literals: it comes after the last, and three RAT lines define it.
 fn defines_variable(alloc: Global, work: &mut Written, one: Lit, two: Lit) -> Result<bool, Fail>
     requires unspent { work.old.output.spent ≡ false }
+    requires plain { work.old.output.format ≡ Text }
     requires going { work.old.ended ≡ false }
     requires one { IsOn work.old.vars one }
     requires two { IsOn work.old.vars two }

@@ -30,6 +30,18 @@ pub fn follows<L: LineOut>(
     }
 }
 
+/// Whether the clause of these literals follows from the clauses that are alive.
+pub fn follows_there<L: LineOut>(
+    alloc: Global,
+    work: &Work<L>,
+    lits: &[Lit],
+) -> Result<bool, AllocError>
+    ensures { IfOk result (λ yes. yes ≡ true → rup (known work.now) lits.now ≡ true) }
+{
+    let clauses = lists_of(alloc, work.clauses())?;
+    is_rup(alloc, clauses.as_slice(), lits)
+}
+
 /// The literals of clauses with numbers.
 pub fn lists_of(alloc: Global, cells: &[(u64, Clause)]) -> Result<Vec<Lits>, AllocError>
     ensures { IfOk result (λ clauses. clauses.items ≡ lists cells.now) }

@@ -6,10 +6,10 @@ mod formulas;
 mod simplifiers;
 mod works;
 
-pub use following::{follows, is_rat_there, lists_of};
+pub use following::{follows, follows_there, is_rat_there, lists_of};
 pub use formulas::{formula_of, is_on, literal, literals};
 pub use simplifiers::{Simplifier, run};
-pub use works::{counted_lines, counted_work, text_lines, text_work};
+pub use works::{counted_lines, counted_work, text_lines, text_work, written_lines, written_work};
 
 #[cfg(test)]
 mod addition;
@@ -19,6 +19,8 @@ mod base;
 mod elimination;
 #[cfg(test)]
 mod equivalence;
+#[cfg(test)]
+mod hints;
 #[cfg(test)]
 mod rows;
 #[cfg(test)]

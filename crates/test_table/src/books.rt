@@ -1,13 +1,13 @@
 //! Books that take lines one by one.
-ghost use Rattle.std.specs.Prelude.{◌≡◌, false, IfOk, OnOk};
-ghost use Rattle.drat_text.specs.LineOut.{WasPut};
+ghost use Rattle.std.specs.Prelude.{◌≡◌, ◌+◌, false, IfOk, OnOk};
+ghost use Rattle.drat_text.specs.LineOut.{WasPut, added_line, deleted_line};
 ghost use Rattle.io_edge.specs.Paths.{IsEmptyWhereTold};
 ghost use Rattle.log_book.specs.Books.{IsNew, told_of};
 
 use drat_text::{LineOut, LineStop};
 use io_edge::Sink;
 use log_book::Book;
-use sat_words::{Line, ProofFormat};
+use sat_words::{Lit, ProofFormat};
 use std::alloc::Global;
 use std::test::Fail;
 
@@ -28,11 +28,21 @@ pub fn new_book<S: Sink + Drop>(
     }
 }
 
-/// Puts a line into a book whose sink has not failed.
-pub fn put_one<S: Sink>(book: &mut Book<S>, line: &Line) -> Result<u64, LineStop>
+/// Adds a clause with hints to a book whose sink has not failed, and answers its number.
+pub fn add_one<S: Sink>(book: &mut Book<S>, lits: &[Lit], hints: &[u64]) -> Result<u64, LineStop>
     requires unspent { book.old.log.lines.spent ≡ false }
-    ensures put { WasPut (told_of S.written S.flushed S.target S.faults book.old) (told_of S.written S.flushed S.target S.faults book.new) line.now result }
+    ensures put { WasPut (told_of S.written S.flushed S.target S.faults book.old) (told_of S.written S.flushed S.target S.faults book.new) (added_line (told_of S.written S.flushed S.target S.faults book.old) lits.now hints.now) result }
+    ensures number { IfOk result (λ n. n ≡ book.old.log.lines.last + 1) }
     ensures unspent { OnOk result (book.new.log.lines.spent ≡ false) }
 {
-    book.put(line)
+    book.add(lits, hints)
+}
+
+/// Deletes the clause with this number and these literals from a book whose sink has not failed.
+pub fn delete_one<S: Sink>(book: &mut Book<S>, number: u64, lits: &[Lit]) -> Result<(), LineStop>
+    requires unspent { book.old.log.lines.spent ≡ false }
+    ensures put { WasPut (told_of S.written S.flushed S.target S.faults book.old) (told_of S.written S.flushed S.target S.faults book.new) (deleted_line (told_of S.written S.flushed S.target S.faults book.old) number lits.now) result }
+    ensures unspent { OnOk result (book.new.log.lines.spent ≡ false) }
+{
+    book.del(number, lits)
 }

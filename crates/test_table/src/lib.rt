@@ -9,7 +9,7 @@ mod stops;
 mod tickets;
 mod trades;
 
-pub use books::{new_book, put_one};
+pub use books::{add_one, delete_one, new_book};
 pub use slots::{get_first, give_back, put_first};
 pub use stops::stop_with;
 pub use tickets::draw_first;

@@ -1,7 +1,7 @@
 // `log_book`: books over sinks in memory, each call of which fails in turn.
 ghost use Rattle.std.specs.Prelude.{◌≡◌, false, IfOk, OnOk};
 
-use crate::books::{new_book, put_one};
+use crate::books::{add_one, delete_one, new_book};
 use drat_text::LineStop;
 use io_edge::{Failed, MemSink, Sink};
 use log_book::Book;
@@ -9,25 +9,25 @@ use sat_words::{Line, Lit, Lits, ProofFormat};
 use std::alloc::Global;
 use std::test::Fail;
 
-/// A book for a formula of one clause, over a sink in memory.
-fn book<'a>(alloc: Global, fails: &'a [u64], keep: bool) -> Result<Book<MemSink<'a>>, Fail>
+/// A book in this format for a formula of one clause, over a sink in memory.
+fn book<'a>(
+    alloc: Global,
+    format: ProofFormat,
+    fails: &'a [u64],
+    keep: bool,
+) -> Result<Book<MemSink<'a>>, Fail>
     ensures unspent { IfOk result (λ b. b.log.lines.spent ≡ false) }
 {
-    new_book(
-        alloc,
-        ProofFormat::Text,
-        MemSink::new(alloc, 1 << 17, fails)?,
-        keep,
-    )
+    new_book(alloc, format, MemSink::new(alloc, 1 << 17, fails)?, keep)
 }
 
-/// Puts the line this many times, as long as the numbers from 2 on are answered. Tells how often it was put, and what stopped
-/// it.
-fn put_often<S: Sink>(book: &mut Book<S>, line: &Line, times: u32) -> (u32, Option<LineStop>)
+/// Adds the clause this many times, as long as the numbers from 2 on are answered. Tells how often it was added, and what
+/// stopped it.
+fn add_often<S: Sink>(book: &mut Book<S>, lits: &[Lit], times: u32) -> (u32, Option<LineStop>)
     requires unspent { book.old.log.lines.spent ≡ false }
 {
     for done in 0..times {
-        match put_one(book, line) {
+        match add_one(book, lits, &[]) {
             Ok(number) => {
                 if number != done as u64 + 2 {
                     return (done, None);
@@ -51,9 +51,9 @@ type Ending = (
 );
 
 fn ending(alloc: Global, fails: &[u64], times: u32, keep: bool) -> Result<Ending, Fail> {
-    let line = Line::Add(Lits::from_slice(alloc, &[Lit::new(1, false), Lit::new(2, false)])?);
-    let mut book = book(alloc, fails, keep)?;
-    let (done, stop) = put_often(&mut book, &line, times);
+    let lits = [Lit::new(1, false), Lit::new(2, false)];
+    let mut book = book(alloc, ProofFormat::Text, fails, keep)?;
+    let (done, stop) = add_often(&mut book, &lits, times);
     let last = book.last();
     book.has_its_log();
     let (end, sink, lines) = book.finish();
@@ -95,26 +95,25 @@ fn lines_are_kept_where_they_are_asked_for(rt: HostRuntime) -> Result<(), Fail> 
     Ok(())
 }
 
-/// The last number before a line is put, the number that it is given, and the last one then.
-fn put_and_last<S: Sink>(book: &mut Book<S>, line: &Line) -> Result<(u64, u64, u64), LineStop>
+/// The last number before a clause is added, the number that it is given, and the last one then.
+fn add_and_last<S: Sink>(book: &mut Book<S>, lits: &[Lit]) -> Result<(u64, u64, u64), LineStop>
     requires { book.old.log.lines.spent ≡ false }
     ensures { OnOk result (book.new.log.lines.spent ≡ false) }
 {
     let before = book.last();
-    let number = put_one(book, line)?;
+    let number = add_one(book, lits, &[])?;
     Ok((before, number, book.last()))
 }
 
 #[test]
-fn a_deletion_has_no_number(rt: HostRuntime) -> Result<(), Fail> {
+fn a_deletion_is_given_no_number(rt: HostRuntime) -> Result<(), Fail> {
     let alloc = rt.alloc();
-    let three = Line::Add(Lits::from_slice(alloc, &[Lit::new(3, false)])?);
-    let gone = Line::Del(Lits::from_slice(alloc, &[Lit::new(3, false)])?);
-    let mut book = book(alloc, &[], true)?;
-    let lasts = put_and_last(&mut book, &three)?;
-    let gone_lasts = put_and_last(&mut book, &gone)?;
-    let more_lasts = put_and_last(&mut book, &three)?;
-    assert!(rt; [lasts, gone_lasts, more_lasts] == [(1, 2, 2), (2, 0, 2), (2, 3, 3)]);
+    let three = [Lit::new(3, false)];
+    let mut book = book(alloc, ProofFormat::Text, &[], true)?;
+    let lasts = add_and_last(&mut book, &three)?;
+    delete_one(&mut book, 2, &three)?;
+    let later_lasts = add_and_last(&mut book, &three)?;
+    assert!(rt; [lasts, later_lasts] == [(1, 2, 2), (2, 3, 3)]);
     let (end, sink, lines) = book.finish();
     assert!(rt; end == Ok(()));
     assert!(rt; sink.bytes() == b"3 0\nd 3 0\n3 0\n".as_slice());
@@ -124,11 +123,39 @@ fn a_deletion_has_no_number(rt: HostRuntime) -> Result<(), Fail> {
     assert!(rt;
         lines.as_slice()
             == [
-                three,
-                gone,
-                Line::Add(Lits::from_slice(alloc, &[Lit::new(3, false)])?)
+                Line::Add(Lits::from_slice(alloc, &three)?),
+                Line::Del(Lits::from_slice(alloc, &three)?),
+                Line::Add(Lits::from_slice(alloc, &three)?)
             ]
             .as_slice()
     );
+    Ok(())
+}
+
+/// The lines of a log in each format, to a sink in memory: two clauses with hints, a deletion, and the empty clause.
+fn written_as(alloc: Global, format: ProofFormat, wanted: &[u8]) -> Result<bool, Fail> {
+    let pair = [Lit::new(1, false), Lit::new(2, true)];
+    let mut book = book(alloc, format, &[], false)?;
+    add_one(&mut book, &pair, &[1])?;
+    add_one(&mut book, &[Lit::new(3, false)], &[2, 1])?;
+    delete_one(&mut book, 2, &pair)?;
+    add_one(&mut book, &[], &[3])?;
+    let (end, sink, _) = book.finish();
+    Ok(end == Ok(()) && sink.bytes() == wanted)
+}
+
+#[test]
+fn numbers_and_hints_are_written_in_lrat(rt: HostRuntime) -> Result<(), Fail> {
+    let lrat = b"2 1 -2 0 1 0\n3 3 0 2 1 0\n3 d 2 0\n4 0 3 0\n".as_slice();
+    assert!(rt; written_as(rt.alloc(), ProofFormat::Lrat, lrat)?);
+    Ok(())
+}
+
+#[test]
+fn drat_passes_over_numbers_and_hints(rt: HostRuntime) -> Result<(), Fail> {
+    let text = b"1 -2 0\n3 0\nd 1 -2 0\n0\n".as_slice();
+    let binary = [97, 2, 5, 0, 97, 6, 0, 100, 2, 5, 0, 97, 0];
+    assert!(rt; written_as(rt.alloc(), ProofFormat::Text, text)?);
+    assert!(rt; written_as(rt.alloc(), ProofFormat::Binary, binary.as_slice())?);
     Ok(())
 }

@@ -1,7 +1,7 @@
 // `log_book`, as bench/turn measures it: lines that are put, and as many bytes that are written plainly.
-use crate::books::{new_book, put_one};
+use crate::books::{add_one, new_book};
 use io_edge::{Failed, Sink};
-use sat_words::{Line, Lit, Lits, ProofFormat};
+use sat_words::{Lit, ProofFormat};
 use std::alloc::Global;
 use std::test::Fail;
 
@@ -43,20 +43,20 @@ const LINES: u32 = 1_000_000;
 /// A line of ten literals, and its text.
 const TEXT: &[u8] = b"100001 100002 100003 100004 100005 100006 100007 100008 100009 100010 0\n";
 
-fn long_line(alloc: Global) -> Result<Line, Fail> {
+fn ten_literals(alloc: Global) -> Result<Vec<Lit>, Fail> {
     let mut lits = Vec::new(alloc);
     for var in 100_001..100_011 {
         lits.push(Lit::new(var, false))?;
     }
-    Ok(Line::Add(Lits::from_vec(lits)))
+    Ok(lits)
 }
 
 /// Puts a line this often, and says how many bytes came to the sink.
 fn put_lines(alloc: Global, format: ProofFormat, times: u32) -> Result<u64, Fail> {
-    let line = long_line(alloc)?;
+    let lits = ten_literals(alloc)?;
     let mut book = new_book(alloc, format, Counter { bytes: 0 }, false)?;
     for _ in 0..times {
-        put_one(&mut book, &line)?;
+        add_one(&mut book, lits.as_slice(), &[])?;
     }
     let (_, sink, _) = book.finish();
     Ok(sink.bytes)

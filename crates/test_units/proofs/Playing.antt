@@ -114,7 +114,7 @@ holder_drew t p q ring a h r opening drew = record {
 unit_new : (o : CoreOpening) (from r a n i f : ℕ) → fresh (start_clauses (opening_of (small o from))) (map (λ (w : Placed). w.entry) (pair_part (small o from) r a n i true f).wrote) r (plus 2 ∷ []) ≡ true
 unit_new o from r a n i f = by (r == r)
   where
-    by : (b : Bool) → not (list_any (includes (plus 2 ∷ [])) (start_clauses (opening_of (small o from)) ++ ([] ++ map (λ (x : Addition). x.lits) (cond (b && true) (record { ring = r; number = n; lits = pair; kind = Learn } ∷ []) [])))) ≡ true
+    by : (b : Bool) → not (list_any (includes (plus 2 ∷ [])) (start_clauses (opening_of (small o from)) ++ ([] ++ map (λ (x : Addition). x.lits) (cond (b && true) (record { ring = r; number = n; lits = pair; kind = Learn; hints = [] } ∷ []) [])))) ≡ true
     by true = refl
     by false = refl
 
@@ -143,10 +143,10 @@ holds_pair t p ring a ticket h = (
 )
 
 -- after the unit's line it is known, and no unit is seen yet
-pub unit_told : (q p : Part) (o : CoreOpening) (ring a n i m j f : ℕ) → p ≡ pair_part o ring a n i true f → q ≡ wrote_part j (Add (record { ring = ring; number = m; lits = plus 2 ∷ []; kind = Learn })) (after_learn Learn p)
+pub unit_told : (q p : Part) (o : CoreOpening) (ring a n i m j f : ℕ) → p ≡ pair_part o ring a n i true f → q ≡ wrote_part j (Add (record { ring = ring; number = m; lits = plus 2 ∷ []; kind = Learn; hints = [] })) (after_learn Learn p)
     → (list_any (same_set (plus 2 ∷ [])) (added (map (λ (x : Placed). x.entry) q.wrote)) ≡ true) × (q.seen ≡ [])
 unit_told q p o ring a n i m j f had is =
-    let e = is ∙ ap (λ (x : Part). wrote_part j (Add (record { ring = ring; number = m; lits = plus 2 ∷ []; kind = Learn })) (after_learn Learn x)) had in
+    let e = is ∙ ap (λ (x : Part). wrote_part j (Add (record { ring = ring; number = m; lits = plus 2 ∷ []; kind = Learn; hints = [] })) (after_learn Learn x)) had in
     (ap (λ (x : Part). list_any (same_set (plus 2 ∷ [])) (added (map (λ (y : Placed). y.entry) x.wrote))) e, ap (λ (x : Part). x.seen) e)
 
 pub two_on : (vars : ℕ) → 2 ≤ vars → (i : ℕ) (k : Literal) → i < 1 → (1 ≤ (get_or (plus 2 ∷ []) i k).var) × ((get_or (plus 2 ∷ []) i k).var ≤ vars)

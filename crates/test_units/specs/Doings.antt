@@ -63,7 +63,7 @@ pub record ReadOne (v w : View) : Type 0 where
 
 -- the line of a unit, by this ring under this number
 abbrev pub unit_line : ℕ → Literal → ℕ → Entry
-unit_line ring lit n = Add (record { ring = ring; number = n; lits = lit ∷ []; kind = UnitLine })
+unit_line ring lit n = Add (record { ring = ring; number = n; lits = lit ∷ []; kind = UnitLine; hints = [] })
 
 -- the ring wrote the unit under each of these numbers, in this order, and did nothing else
 pub record WroteUnits (ring : ℕ) (lit : Literal) (ns : List ℕ) (p q : Part) : Type 0 where

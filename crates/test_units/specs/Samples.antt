@@ -71,7 +71,7 @@ drawn_part o ring ticket found = record (granted_part o (blank ring)) { ticket =
 -- then it learned the pair, under this number, in an entry at this place, and holds its cell; whether a ticket is in hand, and what
 -- the last draw found
 abbrev pub pair_part : CoreOpening → ℕ → ℕ → ℕ → ℕ → Bool → ℕ → Part
-pair_part o ring a n i ticket found = opened_part (record { address = a; number = n; lits = pair }) (made_part (record { address = a; number = n; lits = pair }) i (Add (record { ring = ring; number = n; lits = pair; kind = Learn })) (drawn_part o ring ticket found))
+pair_part o ring a n i ticket found = opened_part (record { address = a; number = n; lits = pair }) (made_part (record { address = a; number = n; lits = pair }) i (Add (record { ring = ring; number = n; lits = pair; kind = Learn; hints = [] })) (drawn_part o ring ticket found))
 
 -- that is all that it did, but for a draw more if it has a ticket in hand
 pub record IsPairHolder {B : Type 0} (t : Shared B) (p : Seat (Option B) View) (ring a : ℕ) (ticket : Bool) : Type 0 where

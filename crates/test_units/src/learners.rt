@@ -60,7 +60,7 @@ pub fn learn<H: Wait, S: Sink>(
     requires clear { (only ring.old.pass.me.0).core.making ≡ [] }
     ensures ring { IsAlone table.now ring.new.pass ring.new.ring }
     ensures builder { IfSome result (λ x. IsBuilder table.now ring.new.pass ring.new.ring x.0.address x.1 lits.now) }
-    ensures part { IfSome result (λ x. (i : ℕ) × ((only ring.new.pass.me.0).core ≡ made_part (record { address = x.0.address; number = x.1; lits = lits.now }) i (Add (record { ring = ring.old.ring; number = x.1; lits = lits.now; kind = Learn })) (after_learn Learn (only ring.old.pass.me.0).core))) }
+    ensures part { IfSome result (λ x. (i : ℕ) × ((only ring.new.pass.me.0).core ≡ made_part (record { address = x.0.address; number = x.1; lits = lits.now }) i (Add (record { ring = ring.old.ring; number = x.1; lits = lits.now; kind = Learn; hints = [] })) (after_learn Learn (only ring.old.pass.me.0).core))) }
     ensures none { IfNone result (WroteNone ring.old.pass.me.0 ring.new.pass.me.0) }
     ensures same { (ring.new.ring ≡ ring.old.ring) × (ring.new.pass.me.0.opening ≡ ring.old.pass.me.0.opening) }
 {
@@ -97,16 +97,17 @@ pub fn build<S: Sink>(
     open_cell(table, &mut ring.pass, cell);
 }
 
-/// The two literals of a cell that the ring holds. None if the clause is longer or shorter.
+/// The number and the two literals of a cell that the ring holds. None if the clause is longer or shorter.
 fn read_pair<S: Sink>(
     table: &Shared<Book<S>>,
     ring: &mut Ring<Book<S>>,
     cell: Cref,
-) -> Option<[Lit; 2]>
+) -> Option<(u64, [Lit; 2])>
     requires ring { IsAlone table.now ring.old.pass ring.old.ring }
     requires held { 0 < times_at cell.address (only ring.old.pass.me.0).core.held }
     ensures ring { IsAlone table.now ring.new.pass ring.new.ring }
-    ensures lits { MatchOption result (length (clause_of cell.address ring.old.pass.me.0).lits ≢ 2) (λ x. x ≡ (clause_of cell.address ring.old.pass.me.0).lits) }
+    ensures lits { MatchOption result (length (clause_of cell.address ring.old.pass.me.0).lits ≢ 2) (λ x. x.1 ≡ (clause_of cell.address ring.old.pass.me.0).lits) }
+    ensures number { IfSome result (λ x. x.0 ≡ (clause_of cell.address ring.old.pass.me.0).number) }
     ensures same { (ring.new.ring ≡ ring.old.ring) × (ring.new.pass.me.0.parts ≡ ring.old.pass.me.0.parts) }
 {
     let head = read_head(table, &mut ring.pass, cell);
@@ -115,7 +116,7 @@ fn read_pair<S: Sink>(
     }
     let first = read_lit(table, &mut ring.pass, cell, 0);
     let second = read_lit(table, &mut ring.pass, cell, 1);
-    Some([first, second])
+    Some((head.number, [first, second]))
 }
 
 /// Gives the last count of a cell of two literals up, takes the turn, deletes its clause, and gives the turn back. False where
@@ -134,15 +135,16 @@ pub fn give_up_and_bury<H: Wait, S: Sink>(
     ensures deleted { MatchBool result (Buried cell.address ring.old.pass.me.0 ring.new.pass.me.0) (NotBuried cell.address ring.old.pass.me.0 ring.new.pass.me.0) }
     ensures same { (ring.new.ring ≡ ring.old.ring) × ((only ring.new.pass.me.0).core.seen ≡ (only ring.old.pass.me.0).core.seen) }
 {
-    let Some(lits) = read_pair(table, ring, cell) else {
+    let Some(found) = read_pair(table, ring, cell) else {
         return false;
     };
+    let lits = found.1;
     match drop_count(table, &mut ring.pass, cell) {
         Dropped::Left => return false,
         Dropped::Last => {}
     }
     let mut turn = take_turn(rt, alloc, table, &mut ring.pass, ring.ring);
-    match turn.bury(&ring.pass, alloc, cell, lits.as_slice()) {
+    match turn.bury(&ring.pass, cell, found.0, lits.as_slice()) {
         Ok(()) => {
             give_turn(table, &mut ring.pass, turn);
             true
@@ -165,12 +167,12 @@ pub fn learn_unit<H: Wait, S: Sink>(
 ) -> Option<u64>
     requires { IsLearner table.now ring.old.pass ring.old.ring (lit ∷ []) }
     ensures ring { IsAlone table.now ring.new.pass ring.new.ring }
-    ensures part { IfSome result (λ n. (i : ℕ) × ((only ring.new.pass.me.0).core ≡ wrote_part i (Add (record { ring = ring.old.ring; number = n; lits = lit ∷ []; kind = Learn })) (after_learn Learn (only ring.old.pass.me.0).core))) }
+    ensures part { IfSome result (λ n. (i : ℕ) × ((only ring.new.pass.me.0).core ≡ wrote_part i (Add (record { ring = ring.old.ring; number = n; lits = lit ∷ []; kind = Learn; hints = [] })) (after_learn Learn (only ring.old.pass.me.0).core))) }
     ensures none { IfNone result (WroteNone ring.old.pass.me.0 ring.new.pass.me.0) }
     ensures same { (ring.new.ring ≡ ring.old.ring) × (ring.new.pass.me.0.opening ≡ ring.old.pass.me.0.opening) }
 {
     let mut turn = take_turn(rt, alloc, table, &mut ring.pass, ring.ring);
-    match turn.add_unit(&ring.pass, alloc, Kind::Learn, lit) {
+    match turn.add_unit(&ring.pass, Kind::Learn, lit) {
         Ok(number) => {
             give_turn(table, &mut ring.pass, turn);
             Some(number)

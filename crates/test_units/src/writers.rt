@@ -82,7 +82,7 @@ fn write_unit<H: Wait, S: Sink>(
     ensures same { ring.new.ring ≡ ring.old.ring }
 {
     let mut turn = take_turn(rt, alloc, table, &mut ring.pass, ring.ring);
-    match turn.add_unit(&ring.pass, alloc, Kind::UnitLine, lit) {
+    match turn.add_unit(&ring.pass, Kind::UnitLine, lit) {
         Ok(number) => {
             give_turn(table, &mut ring.pass, turn);
             Some(number)

@@ -9,6 +9,7 @@ use Rattle.sat_words.specs.Literal.{Literal, IsOn}
 use Rattle.sat_words.specs.declared.line.Line.TheVariants.{Add}
 use Rattle.sat_words.specs.declared.line.ProofFormat.{ProofFormat}
 use Rattle.rup_model.specs.Log.{is_valid}
+use Rattle.rup_model.specs.NumberedLines.{Added}
 use Rattle.rup_model.specs.Rup.{rup}
 use Rattle.drat_text.specs.Text.{CanBeSpelled}
 use Rattle.log_book.specs.Ended.{IsClosed}
@@ -44,7 +45,7 @@ any_spelled (suc k) x lt = absurd (omega arith)
 
 -- no line, and nothing of one more
 cut_nothing : (f : ProofFormat) (written : Option (List ℕ)) → IsEmptyWhereTold written → IsCutShort f [] [] written
-cut_nothing f written h = record { front = []; rest = []; front_of = refl; line = Add any_lits; cut = 0; accepted = (any_valid, tt); spelled = any_spelled; bytes = holds_nothing written h }
+cut_nothing f written h = record { front = []; rest = []; front_of = refl; line = Added 1 any_lits []; cut = 0; accepted = (any_valid, tt); spelled = any_spelled; bytes = holds_nothing written h }
 
 -- and a front of it
 front_of_nothing : (written : Option (List ℕ)) → IsEmptyWhereTold written → IsFrontTold written []

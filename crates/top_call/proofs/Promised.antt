@@ -5,7 +5,9 @@ use Rattle.std.specs.declared.option.Option.{Option}
 use Rattle.sat_words.specs.Literal.{Literal}
 use Rattle.sat_words.specs.FormulaData.{FormulaData}
 use Rattle.rup_model.specs.declared.journal.Entry.{Entry}
-use Rattle.rup_model.specs.Journal.{lines}
+use Rattle.rup_model.specs.Log.{Refutes}
+use Rattle.rup_model.specs.NumberedLines.{numbered_lines}
+use Rattle.rup_model.proofs.Lines.{numbered_lines_lines}
 use Rattle.sat_words.specs.declared.line.ProofFormat.{ProofFormat}
 use Rattle.drat_text.specs.Spelling.{proof_bytes}
 use Rattle.log_book.specs.Kept.{HoldsText}
@@ -39,10 +41,10 @@ if_told (Some bytes) all h = h
 -- a writer that did not fail has the whole log
 whole_log : {W : Type 0} (faults : W → ℕ) (written flushed : W → Option (List ℕ)) (proof : Option W) (format : ProofFormat) (clauses : List (List Literal)) (J : List Entry) (searched : ℕ)
     → IsSomeAnd (writer_of faults written flushed proof) (HoldsLog format clauses J searched) → IsSomeAnd (writer_of faults written flushed proof) (λ writer. writer.faults ≡ 0)
-    → IfSome (option_and_then written proof) (λ bytes. bytes ≡ proof_bytes format (lines clauses J))
+    → IfSome (option_and_then written proof) (λ bytes. bytes ≡ proof_bytes format (numbered_lines clauses J))
 whole_log faults written flushed None format clauses J searched log none = tt
 whole_log faults written flushed (Some writer) format clauses J searched log none =
-    if_told (written writer) (proof_bytes format (lines clauses J)) (log.whole (let grown = log.grown in omega (arith, grown, none)))
+    if_told (written writer) (proof_bytes format (numbered_lines clauses J)) (log.whole (let grown = log.grown in omega (arith, grown, none)))
 
 module _ {W : Type 0} (faults : W → ℕ) (written flushed : W → Option (List ℕ)) (proof : Option W) (call : Call) (is : call.proof ≡ writer_of faults written flushed proof) (F : FormulaData) (J : List Entry) (tally : Tally) where
   has_model : (model : Option (List Bool)) → HasModel model F J tally call → IfSome (asked_text call.words call.contents call.left) (λ bytes. IsSomeAnd model (HasModelOf bytes))
@@ -60,8 +62,8 @@ module _ {W : Type 0} (faults : W → ℕ) (written flushed : W → Option (List
         formula = F;
         spelled = reads;
         no_model = a.decided.holds.no_model;
-        lines = lines F.clauses J;
-        refutes = a.decided.holds.refuted;
+        lines = numbered_lines F.clauses J;
+        refutes = subst (Refutes F.clauses) (sym (numbered_lines_lines F.clauses J)) a.decided.holds.refuted;
         written = whole_log faults written flushed proof format F.clauses J a.started.searched (subst (λ (p : Option Writer). IsSomeAnd p (HoldsLog format F.clauses J a.started.searched)) is a.started.log) (subst (λ (p : Option Writer). IsSomeAnd p (λ writer. writer.faults ≡ 0)) is a.quiet.proof);
       }))
 

@@ -2,7 +2,7 @@
 use Rattle.std.specs.Prelude.{◌≡◌, ◌≤◌, ℕ, List}
 use Rattle.sat_words.specs.Literal.{Literal}
 use Rattle.rup_model.specs.declared.journal.Entry.{Entry}
-use Rattle.rup_model.specs.Journal.{lines}
+use Rattle.rup_model.specs.NumberedLines.{numbered_lines}
 use Rattle.sat_words.specs.declared.line.ProofFormat.{ProofFormat}
 use Rattle.drat_text.specs.Spelling.{proof_bytes}
 use Rattle.log_book.specs.Ended.{IsClosed}
@@ -18,6 +18,6 @@ pub record HoldsLog (format : ProofFormat) (clauses : List (List Literal)) (jour
   pub poured : ℕ
   pub grown : (searched ≤ poured) × (poured ≤ writer.faults)
   pub closed : IsClosed poured writer.faults writer.flushed writer.written
-  pub whole : poured ≡ 0 → HoldsText writer.written (proof_bytes format (lines clauses journal))
+  pub whole : poured ≡ 0 → HoldsText writer.written (proof_bytes format (numbered_lines clauses journal))
   pub short : (poured ≡ 0 → ⊥) → IsCutShort format clauses journal writer.written
-  pub front : searched ≡ 0 → IsFrontTold writer.written (proof_bytes format (lines clauses journal))
+  pub front : searched ≡ 0 → IsFrontTold writer.written (proof_bytes format (numbered_lines clauses journal))

@@ -1,10 +1,10 @@
 -- What the program promises of a formula that it reads, in short: at status 10 a model, at status 20 a proof. It follows from what
 -- `Statuses` says, which has all statuses, the formulas that are made (`--make`), and what is printed.
-use Rattle.std.specs.Prelude.{◌≡◌, ℕ, List, Bool, true, Some, None, IfSome, IsSomeAnd}
+use Rattle.std.specs.Prelude.{◌≡◌, ℕ, List, map, Bool, true, Some, None, IfSome, IsSomeAnd}
 use Rattle.std.specs.declared.option.Option.{Option}
 use Rattle.sat_words.specs.Truth.{formula_true}
 use Rattle.sat_words.specs.FormulaData.{FormulaData}
-use Rattle.sat_words.specs.declared.line.Line.{Line}
+use Rattle.rup_model.specs.NumberedLines.{NumberedLine, line_of}
 use Rattle.rup_model.specs.Log.{Refutes}
 use Rattle.sat_words.specs.declared.line.ProofFormat.{ProofFormat}
 use Rattle.drat_text.specs.Spelling.{proof_bytes}
@@ -35,8 +35,8 @@ pub record HasProofOf (format : ProofFormat) (input : List ℕ) (proof : Option 
   pub formula : FormulaData
   pub spelled : Reads input formula
   pub no_model : (model : List Bool) → formula_true model formula.clauses ≡ true → ⊥
-  pub lines : List Line
-  pub refutes : Refutes formula.clauses lines
+  pub lines : List NumberedLine
+  pub refutes : Refutes formula.clauses (map line_of lines)
   pub written : IfSome proof (λ bytes. bytes ≡ proof_bytes format lines)
 
 -- if the text that the words ask to read is known: status 10 comes only with a model, in the report, of the formula that it spells,

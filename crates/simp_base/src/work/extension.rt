@@ -3,8 +3,9 @@ ghost use Rattle.std.specs.Prelude.{◌≡◌, ◌+◌, [], ◌∷◌, true, fal
 ghost use Rattle.sat_words.specs.Literal.{IsOn};
 ghost use Rattle.rup_model.specs.Rup.{rat};
 ghost use Rattle.simp_base.specs.WorkState.{IsWork, lists};
-ghost use Rattle.simp_base.specs.Log.{Continues, Grows};
-ghost use Rattle.simp_base.specs.Calls.{ruler_adds, on_ok, IsAboveUnheld, WasAdded, WasWidened};
+ghost use Rattle.sat_words.specs.Formats.{has_hints};
+ghost use Rattle.simp_base.specs.Log.{Grows};
+ghost use Rattle.simp_base.specs.Calls.{AddsToLog, IsAboveUnheld, WasAdded, WasWidened};
 
 use crate::work::Work;
 use drat_text::{LineOut, LineStop};
@@ -17,7 +18,7 @@ impl<L: LineOut> Work<L> {
     /// Adds a clause that is a resolution asymmetric tautology (RAT; Järvisalo, Heule and Biere 2012) on its first literal
     /// over the clauses alive: its resolvents with all of them on that literal follow by unit propagation. The clauses alive are
     /// those held, if no other has the literal's variable. Answers its number. The line has the literals in the order given, so
-    /// that a reader of the log takes the same first one.
+    /// that a reader of the log takes the same first one. It has no hints, so that the format must not have them.
     ///
     /// Models of the clauses before need not be models of the one that is added.
     pub fn add_rat(&mut self, lits: &[Lit]) -> Result<u64, LineStop>
@@ -25,9 +26,10 @@ impl<L: LineOut> Work<L> {
         requires going { self.old.ended ≡ false }
         requires rat { rat (lists self.old.clauses) lits.now ≡ true }
         requires above { IsAboveUnheld self.old lits.now }
+        requires plain { has_hints self.old.output.format ≡ false }
         requires on { All (IsOn self.old.vars) lits.now }
         ensures added { WasAdded self.old self.new lits.now result }
-        ensures log { Continues (on_ok result (ruler_adds (self.old.output.last + 1) lits.now ∷ [])) self.old self.new }
+        ensures log { AddsToLog self.old self.new lits.now result }
         ensures work { IsWork self.new }
     {
         // The check knows the work's invariant once a field is used.

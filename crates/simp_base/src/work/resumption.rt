@@ -6,6 +6,7 @@ ghost use Rattle.simp_base.specs.Log.{Stands};
 ghost use Rattle.simp_base.specs.Resumed.{Resumes, CanResume};
 
 use crate::beginning::table_over;
+use crate::hints::Hinter;
 use crate::unit_table::UnitTable;
 use crate::work::Work;
 use drat_text::LineOut;
@@ -59,6 +60,7 @@ impl<L: LineOut> Work<L> {
             unheld: vars,
             clauses,
             units,
+            hinter: Hinter::new(alloc),
             stack,
             ended: false,
             lines: end.entries,

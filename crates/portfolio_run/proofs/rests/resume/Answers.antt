@@ -1,20 +1,26 @@
 use Rattle.std.proofs.Common.{ℕ, List, map, filter, refl, sym, subst, ap, ◌∙◌, ◌++◌, inl, inr}
 use Rattle.std.proofs.lemmas.List.{map-append}
+use Rattle.sat_words.specs.Formats.{has_hints}
 use Rattle.sat_words.specs.Literal.{Literal}
 use Rattle.log_book.specs.Books.{told_of}
 use Rattle.simp_base.specs.WorkState.{resumed}
 use Rattle.simp_base.specs.Resumed.{Resumes}
 use Rattle.ruler_simp.specs.Again.{RuledAgain}
 use Rattle.portfolio_run.specs.Rulings.{deletions}
-use Rattle.portfolio_run.specs.Resumed.{is_dropped, dropped_of, deletion_of}
+use Rattle.portfolio_run.specs.Resumed.{is_dropped, dropped_of}
 use Rattle.portfolio_run.specs.Ruled.{schedule_of}
-use Rattle.portfolio_run.proofs.Deleting.{took_spent, took_faults, lines_after, resumes_after, front_cause, front_lines, front_sound}
+use Rattle.portfolio_run.proofs.Deleting.{took_spent, took_format, took_faults, lines_after, resumes_after, front_cause, front_lines, front_sound}
 use Rattle.portfolio_run.proofs.rests.resume.Goals as goal
 
 pub again-requires-clause-unspent : goal.again-requires-clause-unspent
 again-requires-clause-unspent g c =
     let told = told_of g.S.Sink.written g.S.Sink.flushed g.S.Sink.target g.S.Sink.faults in
-    took_spent (map deletion_of (filter is_dropped c.args.rests.items)) (told c.args.book) (told c.drop_rests.new.output) c.in-Ok.ensures.took ∙ c.requires.unspent
+    took_spent (filter is_dropped c.args.rests.items) (told c.args.book) (told c.drop_rests.new.output) c.in-Ok.ensures.took ∙ c.requires.unspent
+
+pub again-requires-clause-plain : goal.again-requires-clause-plain
+again-requires-clause-plain g c added =
+    let told = told_of g.S.Sink.written g.S.Sink.flushed g.S.Sink.target g.S.Sink.faults in
+    ap has_hints (took_format (filter is_dropped c.args.rests.items) (told c.args.book) (told c.drop_rests.new.output) c.in-Ok.ensures.took) ∙ c.requires.plain
 
 pub again-requires-clause-resumes : goal.again-requires-clause-resumes
 again-requires-clause-resumes g c =
@@ -25,7 +31,7 @@ again-requires-clause-resumes g c =
     let J = c.requires.left.0 in (
       J ++ deletions (dropped_of rs),
       subst (λ (cs : List (ℕ × List Literal)). Resumes F c.args.vars cs us c.args.stack (told c.drop_rests.new.output) (J ++ deletions (dropped_of rs))) (sym c.in-Ok.ensures.kept)
-          (resumes_after F c.args.vars us c.args.stack (told c.args.book) J rs c.requires.left.1 c.requires.unspent (told c.drop_rests.new.output) c.in-Ok.ensures.took),
+          (resumes_after F c.args.vars us c.args.stack (told c.args.book) J rs c.requires.left.1 c.requires.unspent (told c.drop_rests.new.output) c.in-Ok.ensures.took c.requires.plain),
     )
 
 pub returns-in-Ok : goal.returns-in-Ok
@@ -37,10 +43,10 @@ returns-in-Ok g c =
     let took = c.in-Ok.ensures.took in
     inr (record {
       middle = told c.drop_rests.new.output;
-      unspent = took_spent (map deletion_of (filter is_dropped rs)) (told c.args.book) (told c.drop_rests.new.output) took ∙ c.requires.unspent;
-      quiet = took_faults (map deletion_of (filter is_dropped rs)) (told c.args.book) (told c.drop_rests.new.output) took;
+      unspent = took_spent (filter is_dropped rs) (told c.args.book) (told c.drop_rests.new.output) took ∙ c.requires.unspent;
+      quiet = took_faults (filter is_dropped rs) (told c.args.book) (told c.drop_rests.new.output) took;
       lines = λ J left. lines_after F c.args.vars us c.args.stack (told c.args.book) J rs left c.requires.unspent (told c.drop_rests.new.output) took;
-      resumes = λ J left. resumes_after F c.args.vars us c.args.stack (told c.args.book) J rs left c.requires.unspent (told c.drop_rests.new.output) took;
+      resumes = λ J left. resumes_after F c.args.vars us c.args.stack (told c.args.book) J rs left c.requires.unspent (told c.drop_rests.new.output) took c.requires.plain;
       ruled = subst (λ (cs : List (ℕ × List Literal)). RuledAgain F (schedule_of c.args.plan.now) (resumed c.args.vars cs us c.args.stack (told c.drop_rests.new.output)) (told c.again.result.1) c.again.result.0) c.in-Ok.ensures.kept c.again.ensures;
     })
 

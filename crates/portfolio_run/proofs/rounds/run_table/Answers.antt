@@ -17,19 +17,19 @@ search-answer-requires-clause-first g c κs within = let o = c.requires.1.1.1.1.
 pub add_counts-requires-clause-small : goal.add_counts-requires-clause-small
 add_counts-requires-clause-small g c = λ ring d lt.
     let q = c.requires.1.1.1.1.1.1 in
-    let h = has_settled g.S.Sink.written g.S.Sink.flushed g.S.Sink.target g.S.Sink.faults g.known c.args.plan.now c.args.formula.now c.args.left c.args.tally.items c.args.done c.args.limit c.args.opened.0 c.args.opened.1 c.args.opened.2.items (home_of c.args.opened.1) c.search-answer.new.first c.args.counts.items c.search-answer.new.tally.items c.search-answer.result q.1.1.1.1.1.1.0 q.1.1.1.1.1.1.1 c.search-answer.ensures in
+    let h = has_settled g.S.Sink.written g.S.Sink.flushed g.S.Sink.target g.S.Sink.faults g.known c.args.plan.now c.args.formula.now c.args.left c.args.tally.items c.args.done c.args.limit c.args.opened.0 c.args.opened.1 c.args.opened.2.items (home_of c.args.opened.1) c.search-answer.new.first c.args.counts.items c.search-answer.new.tally.items c.search-answer.result q.1.1.1.1.1.1.0 q.1.1.1.1.1.1.1.0 c.search-answer.ensures in
     settled_small g.S.Sink.written g.S.Sink.flushed g.S.Sink.target g.S.Sink.faults g.known c.args.plan.now c.args.formula.now q.1.1.1.1.0 q.0.0 q.0.1 c.args.left.vars c.args.left.stack c.args.tally.items c.args.done c.args.limit c.args.opened.0 c.search-answer.new.first c.search-answer.new.tally.items c.search-answer.result h q.1.0 ring d lt
 
 pub close-requires-clause-pass : goal.close-requires-clause-pass
 close-requires-clause-pass g c =
     let q = c.requires.1.1.1.1.1.1 in
-    let h = has_settled g.S.Sink.written g.S.Sink.flushed g.S.Sink.target g.S.Sink.faults g.known c.args.plan.now c.args.formula.now c.args.left c.args.tally.items c.args.done c.args.limit c.args.opened.0 c.args.opened.1 c.args.opened.2.items (home_of c.args.opened.1) c.search-answer.new.first c.args.counts.items c.search-answer.new.tally.items c.search-answer.result q.1.1.1.1.1.1.0 q.1.1.1.1.1.1.1 c.search-answer.ensures in
+    let h = has_settled g.S.Sink.written g.S.Sink.flushed g.S.Sink.target g.S.Sink.faults g.known c.args.plan.now c.args.formula.now c.args.left c.args.tally.items c.args.done c.args.limit c.args.opened.0 c.args.opened.1 c.args.opened.2.items (home_of c.args.opened.1) c.search-answer.new.first c.args.counts.items c.search-answer.new.tally.items c.search-answer.result q.1.1.1.1.1.1.0 q.1.1.1.1.1.1.1.0 c.search-answer.ensures in
     (gathered g.S.Sink.written g.S.Sink.flushed g.S.Sink.target g.S.Sink.faults g.known c.args.plan.now c.args.formula.now q.1.1.1.1.0 q.0.0 q.0.1 c.args.left.vars c.args.left.stack c.args.tally.items c.args.done c.args.limit c.args.opened.0 c.search-answer.new.first c.search-answer.new.tally.items c.search-answer.result h).pass
 
 pub returns-then-not-is_passed-clause-over : goal.returns-then-not-is_passed-clause-over
 returns-then-not-is_passed-clause-over g c =
     let q = c.requires.1.1.1.1.1.1 in
-    let h = has_settled g.S.Sink.written g.S.Sink.flushed g.S.Sink.target g.S.Sink.faults g.known c.args.plan.now c.args.formula.now c.args.left c.args.tally.items c.args.done c.args.limit c.args.opened.0 c.args.opened.1 c.args.opened.2.items (home_of c.args.opened.1) c.search-answer.new.first c.args.counts.items c.search-answer.new.tally.items c.search-answer.result q.1.1.1.1.1.1.0 q.1.1.1.1.1.1.1 c.search-answer.ensures in
+    let h = has_settled g.S.Sink.written g.S.Sink.flushed g.S.Sink.target g.S.Sink.faults g.known c.args.plan.now c.args.formula.now c.args.left c.args.tally.items c.args.done c.args.limit c.args.opened.0 c.args.opened.1 c.args.opened.2.items (home_of c.args.opened.1) c.search-answer.new.first c.args.counts.items c.search-answer.new.tally.items c.search-answer.result q.1.1.1.1.1.1.0 q.1.1.1.1.1.1.1.0 c.search-answer.ensures in
     let e = c.close.ensures in
     let last : c.search-answer.result ≡ Unknown → c.args.done + c.args.limit ≡ c.args.plan.now.conflicts = λ is.
     settled_all g.S.Sink.written g.S.Sink.flushed g.S.Sink.target g.S.Sink.faults g.known c.args.plan.now c.args.formula.now q.1.1.1.1.0 q.0.0 q.0.1 c.args.left.vars c.args.left.stack c.args.tally.items c.args.done c.args.limit c.args.opened.0 c.search-answer.new.first c.search-answer.new.tally.items c.search-answer.result h (λ lt. true≢false (sym (c.is_passed.ensures.1 (is, lt)) ∙ c.if-not-is_passed.true)) in
@@ -39,13 +39,13 @@ returns-then-not-is_passed-clause-over g c =
 pub returns-then-not-is_passed-clause-counted : goal.returns-then-not-is_passed-clause-counted
 returns-then-not-is_passed-clause-counted g c =
     let q = c.requires.1.1.1.1.1.1 in
-    let h = has_settled g.S.Sink.written g.S.Sink.flushed g.S.Sink.target g.S.Sink.faults g.known c.args.plan.now c.args.formula.now c.args.left c.args.tally.items c.args.done c.args.limit c.args.opened.0 c.args.opened.1 c.args.opened.2.items (home_of c.args.opened.1) c.search-answer.new.first c.args.counts.items c.search-answer.new.tally.items c.search-answer.result q.1.1.1.1.1.1.0 q.1.1.1.1.1.1.1 c.search-answer.ensures in
+    let h = has_settled g.S.Sink.written g.S.Sink.flushed g.S.Sink.target g.S.Sink.faults g.known c.args.plan.now c.args.formula.now c.args.left c.args.tally.items c.args.done c.args.limit c.args.opened.0 c.args.opened.1 c.args.opened.2.items (home_of c.args.opened.1) c.search-answer.new.first c.args.counts.items c.search-answer.new.tally.items c.search-answer.result q.1.1.1.1.1.1.0 q.1.1.1.1.1.1.1.0 c.search-answer.ensures in
     ap (λ (cs : List Counts). length cs) c.add_counts.ensures.added ∙ settled_tally g.S.Sink.written g.S.Sink.flushed g.S.Sink.target g.S.Sink.faults g.known c.args.plan.now c.args.formula.now q.1.1.1.1.0 q.0.0 q.0.1 c.args.left.vars c.args.left.stack c.args.tally.items c.args.done c.args.limit c.args.opened.0 c.search-answer.new.first c.search-answer.new.tally.items c.search-answer.result h
 
 pub pause-requires : goal.pause-requires
 pause-requires g c κs within =
     let q = c.requires.1.1.1.1.1.1 in
-    let h = has_settled g.S.Sink.written g.S.Sink.flushed g.S.Sink.target g.S.Sink.faults g.known c.args.plan.now c.args.formula.now c.args.left c.args.tally.items c.args.done c.args.limit c.args.opened.0 c.args.opened.1 c.args.opened.2.items (home_of c.args.opened.1) c.search-answer.new.first c.args.counts.items c.search-answer.new.tally.items c.search-answer.result q.1.1.1.1.1.1.0 q.1.1.1.1.1.1.1 c.search-answer.ensures in
+    let h = has_settled g.S.Sink.written g.S.Sink.flushed g.S.Sink.target g.S.Sink.faults g.known c.args.plan.now c.args.formula.now c.args.left c.args.tally.items c.args.done c.args.limit c.args.opened.0 c.args.opened.1 c.args.opened.2.items (home_of c.args.opened.1) c.search-answer.new.first c.args.counts.items c.search-answer.new.tally.items c.search-answer.result q.1.1.1.1.1.1.0 q.1.1.1.1.1.1.1.0 c.search-answer.ensures in
     let many = settled_many g.S.Sink.written g.S.Sink.flushed g.S.Sink.target g.S.Sink.faults g.known c.args.plan.now c.args.formula.now q.1.1.1.1.0 q.0.0 q.0.1 c.args.left.vars c.args.left.stack c.args.tally.items c.args.done c.args.limit c.args.opened.0 c.search-answer.new.first c.search-answer.new.tally.items c.search-answer.result h in
     let passed = c.is_passed.ensures.0 c.if-not-is_passed.false in (
       within,
@@ -69,7 +69,7 @@ pause-requires g c κs within =
                     tally_is = c.add_counts.ensures.added;
                     done_is = refl;
                   },
-                  (passed.1, c.add_counts.ensures.none ∙ ap (λ (n : ℕ). replicate n no_counts) many),
+                  (passed.1, (c.add_counts.ensures.none ∙ ap (λ (n : ℕ). replicate n no_counts) many, q.1.1.1.1.1.1.1.1)),
                 ),
               ),
             ),
@@ -81,13 +81,13 @@ pause-requires g c κs within =
 pub returns-clause-none : goal.returns-clause-none
 returns-clause-none g c =
     let q = c.requires.1.1.1.1.1.1 in
-    let h = has_settled g.S.Sink.written g.S.Sink.flushed g.S.Sink.target g.S.Sink.faults g.known c.args.plan.now c.args.formula.now c.args.left c.args.tally.items c.args.done c.args.limit c.args.opened.0 c.args.opened.1 c.args.opened.2.items (home_of c.args.opened.1) c.search-answer.new.first c.args.counts.items c.search-answer.new.tally.items c.search-answer.result q.1.1.1.1.1.1.0 q.1.1.1.1.1.1.1 c.search-answer.ensures in
+    let h = has_settled g.S.Sink.written g.S.Sink.flushed g.S.Sink.target g.S.Sink.faults g.known c.args.plan.now c.args.formula.now c.args.left c.args.tally.items c.args.done c.args.limit c.args.opened.0 c.args.opened.1 c.args.opened.2.items (home_of c.args.opened.1) c.search-answer.new.first c.args.counts.items c.search-answer.new.tally.items c.search-answer.result q.1.1.1.1.1.1.0 q.1.1.1.1.1.1.1.0 c.search-answer.ensures in
     let many = settled_many g.S.Sink.written g.S.Sink.flushed g.S.Sink.target g.S.Sink.faults g.known c.args.plan.now c.args.formula.now q.1.1.1.1.0 q.0.0 q.0.1 c.args.left.vars c.args.left.stack c.args.tally.items c.args.done c.args.limit c.args.opened.0 c.search-answer.new.first c.search-answer.new.tally.items c.search-answer.result h in
     IfOk-weaker c.pause.result _ _ (λ x s. s.1 ∙ c.add_counts.ensures.none ∙ ap (λ (n : ℕ). replicate n no_counts) many) c.pause.ensures.same
 
 pub returns-clause-counted : goal.returns-clause-counted
 returns-clause-counted g c =
     let q = c.requires.1.1.1.1.1.1 in
-    let h = has_settled g.S.Sink.written g.S.Sink.flushed g.S.Sink.target g.S.Sink.faults g.known c.args.plan.now c.args.formula.now c.args.left c.args.tally.items c.args.done c.args.limit c.args.opened.0 c.args.opened.1 c.args.opened.2.items (home_of c.args.opened.1) c.search-answer.new.first c.args.counts.items c.search-answer.new.tally.items c.search-answer.result q.1.1.1.1.1.1.0 q.1.1.1.1.1.1.1 c.search-answer.ensures in
+    let h = has_settled g.S.Sink.written g.S.Sink.flushed g.S.Sink.target g.S.Sink.faults g.known c.args.plan.now c.args.formula.now c.args.left c.args.tally.items c.args.done c.args.limit c.args.opened.0 c.args.opened.1 c.args.opened.2.items (home_of c.args.opened.1) c.search-answer.new.first c.args.counts.items c.search-answer.new.tally.items c.search-answer.result q.1.1.1.1.1.1.0 q.1.1.1.1.1.1.1.0 c.search-answer.ensures in
     let long : length c.add_counts.new.tally.items ≡ c.args.plan.now.threads = ap (λ (cs : List Counts). length cs) c.add_counts.ensures.added ∙ settled_tally g.S.Sink.written g.S.Sink.flushed g.S.Sink.target g.S.Sink.faults g.known c.args.plan.now c.args.formula.now q.1.1.1.1.0 q.0.0 q.0.1 c.args.left.vars c.args.left.stack c.args.tally.items c.args.done c.args.limit c.args.opened.0 c.search-answer.new.first c.search-answer.new.tally.items c.search-answer.result h in
     IfErr-weaker c.pause.result _ _ (λ x s. ap (λ (cs : List Counts). length cs) s ∙ long) c.pause.ensures.counted

@@ -1,4 +1,5 @@
 use Rattle.std.proofs.Common.{◌∙◌, sym, subst, ap, Ok, length}
+use Rattle.sat_words.specs.Formats.{has_hints}
 use Rattle.drat_text.specs.LineState.{LineState}
 use Rattle.log_book.specs.Books.{told_new, told_of}
 use Rattle.ruler_simp.specs.Ruled.{Ruled}
@@ -7,6 +8,9 @@ use Rattle.portfolio_run.specs.Ruled.{schedule_of}
 use Rattle.portfolio_run.specs.declared.answer.Answer.{Answer}
 use Rattle.portfolio_run.proofs.Ruling.{refuted_book, stopped_book, paused_first}
 use Rattle.portfolio_run.proofs.solving.solve_counted.Goals as goal
+
+pub simplify-outcome-requires-clause-plain : goal.simplify-outcome-requires-clause-plain
+simplify-outcome-requires-clause-plain g c added = let q = c.requires.1.1.1.1.1.1 in ap (λ (s : LineState). has_hints s.format) c.in-Ok.ensures.told ∙ q.1.1.1.1.1.1.1.1.1.1
 
 pub solve_left-requires : goal.solve_left-requires
 solve_left-requires g c κs within =
@@ -23,8 +27,8 @@ solve_left-requires g c κs within =
       ruled = subst (λ (s : LineState). Ruled F (schedule_of plan) s (told_of w f t fa b) c.simplify-outcome.result.0)
           (c.in-Ok.ensures.told ∙ (λ i. told_new w f t fa plan.format (length (c.clauses.ensures i)) (q.0 i) plan.keep_lines)) c.simplify-outcome.ensures;
     } in
-    let paused = paused_first w f t fa g.given plan F b c.simplify-outcome.result.0 c.args.tally.items q.1.1.1.1.1.1.0 q.1.1.1.1.1.1.1.0 q.1.0.0 q.1.1.1.1.1.1.1.1.1.0 was c.in-Ok-Simplified.left (c.in-Ok-Simplified.is ∙ ap Ok c.in-Ok-Simplified.field-0-is) in
-    (within.0, (within.1.0, (within.1.1, (c.requires.1.1.1.0, (c.requires.1.1.1.1.0, (c.requires.1.1.1.1.1.0, (q.1.0, (q.1.1.0, (q.1.1.1.0, (q.1.1.1.1.0, (q.1.1.1.1.1.0, (q.1.1.1.1.1.1.0, (q.1.1.1.1.1.1.1.0, (q.1.1.1.1.1.1.1.1.0, (paused, q.1.1.1.1.1.1.1.1.1.1)))))))))))))))
+    let paused = paused_first w f t fa g.given plan F b c.simplify-outcome.result.0 c.args.tally.items q.1.1.1.1.1.1.0 q.1.1.1.1.1.1.1.0 q.1.0.0 q.1.1.1.1.1.1.1.1.1.0.0 was c.in-Ok-Simplified.left (c.in-Ok-Simplified.is ∙ ap Ok c.in-Ok-Simplified.field-0-is) in
+    (within.0, (within.1.0, (within.1.1, (c.requires.1.1.1.0, (c.requires.1.1.1.1.0, (c.requires.1.1.1.1.1.0, (q.1.0, (q.1.1.0, (q.1.1.1.0, (q.1.1.1.1.0, (q.1.1.1.1.1.0, (q.1.1.1.1.1.1.0, (q.1.1.1.1.1.1.1.0, (q.1.1.1.1.1.1.1.1.0, (paused, (q.1.1.1.1.1.1.1.1.1.0.1, q.1.1.1.1.1.1.1.1.1.1))))))))))))))))
 
 pub finish-requires : goal.finish-requires
 finish-requires g c κs within =
@@ -42,7 +46,7 @@ finish-requires g c κs within =
           (c.in-Ok.ensures.told ∙ (λ i. told_new w f t fa plan.format (length (c.clauses.ensures i)) (q.0 i) plan.keep_lines)) c.simplify-outcome.ensures;
     } in (
       within,
-      refuted_book w f t fa g.given plan F b c.simplify-outcome.result.0 c.args.tally.items q.1.1.1.1.1.1.0 q.1.1.1.1.1.1.1.0 q.1.0.0 q.1.1.1.1.1.1.1.1.1.0 was c.has_its_log.ensures.whole c.has_its_log.ensures.cut (c.in-Ok-Refuted.is ∙ ap Ok c.in-Ok-Refuted.field-0-is),
+      refuted_book w f t fa g.given plan F b c.simplify-outcome.result.0 c.args.tally.items q.1.1.1.1.1.1.0 q.1.1.1.1.1.1.1.0 q.1.0.0 q.1.1.1.1.1.1.1.1.1.0.0 was c.has_its_log.ensures.whole c.has_its_log.ensures.cut (c.in-Ok-Refuted.is ∙ ap Ok c.in-Ok-Refuted.field-0-is),
     )
 
 pub finish-requires-in-Err-outcome : goal.finish-requires-in-Err-outcome
@@ -62,5 +66,5 @@ finish-requires-in-Err-outcome g c κs within =
     } in (
       within,
       subst (λ (a : Answer). HasReached w f t fa g.given plan F a c.args.tally.items b) (sym c.answer_of_stop.ensures)
-          (stopped_book w f t fa g.given plan F b c.simplify-outcome.result.0 c.args.tally.items q.1.1.1.1.1.1.0 q.1.1.1.1.1.1.1.0 q.1.0.0 q.1.1.1.1.1.1.1.1.1.0 was c.has_its_log.ensures.whole c.has_its_log.ensures.cut c.in-Err-outcome.stop c.in-Err-outcome.is),
+          (stopped_book w f t fa g.given plan F b c.simplify-outcome.result.0 c.args.tally.items q.1.1.1.1.1.1.0 q.1.1.1.1.1.1.1.0 q.1.0.0 q.1.1.1.1.1.1.1.1.1.0.0 was c.has_its_log.ensures.whole c.has_its_log.ensures.cut c.in-Err-outcome.stop c.in-Err-outcome.is),
     )

@@ -11,11 +11,17 @@ bury-requires-clause-note g c =
     let few = c.requires.count in
     (may_bury c.args.pass.now.me.0 c.loop-i.turn c.args.waiting.now c.loop-i.i c.index-waiting-i.result c.requires.waiting c.loop-i.invariant.noted (omega arith) c.index-waiting-i.is).0
 
+pub bury-requires-clause-number : goal.bury-requires-clause-number
+bury-requires-clause-number g c =
+    let lt = c.loop-i-test.true in
+    let few = c.requires.count in
+    (may_bury c.args.pass.now.me.0 c.loop-i.turn c.args.waiting.now c.loop-i.i c.index-waiting-i.result c.requires.waiting c.loop-i.invariant.noted (omega arith) c.index-waiting-i.is).1
+
 pub bury-requires-clause-clause : goal.bury-requires-clause-clause
 bury-requires-clause-clause g c =
     let lt = c.loop-i-test.true in
     let few = c.requires.count in
-    c.as_slice.ensures.value ∙ (may_bury c.args.pass.now.me.0 c.loop-i.turn c.args.waiting.now c.loop-i.i c.index-waiting-i.result c.requires.waiting c.loop-i.invariant.noted (omega arith) c.index-waiting-i.is).1
+    c.as_slice.ensures.value ∙ (may_bury c.args.pass.now.me.0 c.loop-i.turn c.args.waiting.now c.loop-i.i c.index-waiting-i.result c.requires.waiting c.loop-i.invariant.noted (omega arith) c.index-waiting-i.is).2
 
 pub loop-i-preserved : goal.loop-i-preserved
 loop-i-preserved g c =

@@ -1,10 +1,14 @@
 use Rattle.std.proofs.Common.{◌≡◌, ◌∙◌, ◌<◌, ◌+◌, ◌-◌, ℕ, suc, ap, sym, subst, arith, Ok}
+use Rattle.sat_words.specs.Formats.{has_hints}
 use Rattle.ruler_simp.specs.Passes.{WereRun, round_passes}
 use Rattle.ruler_simp.proofs.Turning.{Turns, turns_next, turns_last, turns_end}
 use Rattle.ruler_simp.proofs.rounds.run_rounds.Goals as goal
 
 less : (n i : ℕ) → i < n → n - i ≡ suc (n - (i + 1))
 less n i lt = omega arith
+
+pub run_round-requires-clause-plain : goal.run_round-requires-clause-plain
+run_round-requires-clause-plain g c added = ap has_hints c.loop-done.invariant.format ∙ c.requires.plain added
 
 pub loop-done-preserved : goal.loop-done-preserved
 loop-done-preserved g c =

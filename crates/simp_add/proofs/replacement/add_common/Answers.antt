@@ -40,4 +40,4 @@ returns-in-Ok-add_rat-clause-grown g c =
     let a = c.not.ensures in let b = c.lits.ensures.value in
     let e : c.as_slice.result.now ≡ opposite x ∷ set_at w.clauses l n = c.as_slice.ensures.value ∙ c.in-Ok.ensures ∙ (λ i. a i ∷ others l (b i)) ∙ ap (λ (C : List Literal). opposite x ∷ C) (sym (set_is w c.requires.work l n c.in-Some.clause.now c.in-Some.ensures.some)) in
     subst (λ (xs : List Literal). Grown w c.add_rat.new.self (xs ∷ [])) e
-    (grown_added w c.add_rat.new.self c.as_slice.result.now c.in-Ok-add_rat.field-0 c.requires.unspent (ap is_empty e) c.in-Ok-add_rat.ensures.work c.in-Ok-add_rat.ensures.added c.in-Ok-add_rat.ensures.log)
+    (grown_added w c.add_rat.new.self c.as_slice.result.now c.in-Ok-add_rat.field-0 c.requires.unspent c.requires.plain (ap is_empty e) c.in-Ok-add_rat.ensures.work c.in-Ok-add_rat.ensures.added c.in-Ok-add_rat.ensures.log)

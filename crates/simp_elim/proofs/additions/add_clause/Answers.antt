@@ -17,7 +17,7 @@ pub unit-requires-clause-rup : goal.unit-requires-clause-rup
 unit-requires-clause-rup g c =
     let old = c.args.work.now in let mid = c.add_rup.new.self in let k : Literal = c.lit-item.result in
     let came : Came old mid (k ∷ []) = subst (Came old mid) (only c.args.lits.now k c.in-len1.len_at_least c.in-len1.len_below c.lit-item.is)
-    (came_added old mid c.args.lits.now c.in_ok-add_rup.field-0 c.requires.unspent c.requires.comes.some c.requires.comes.ordered c.in_ok-add_rup.ensures.work c.in_ok-add_rup.ensures.added (_, c.in_ok-add_rup.ensures.log)) in
+    (came_added old mid c.args.lits.now c.in_ok-add_rup.field-0 c.requires.unspent c.requires.comes.some c.requires.comes.ordered c.in_ok-add_rup.ensures.work c.in_ok-add_rup.ensures.added (_, c.in_ok-add_rup.ensures.log.entries)) in
     itself_follows (known mid) (k ∷ []) (known_alive mid came.number (k ∷ []) (subst (λ (cs : List (ℕ × List Literal)). Contains cs (came.number, k ∷ [])) (sym came.clauses) (Contains_last old.clauses (came.number, k ∷ []))))
 
 pub returns-in-len1-clause-grown : goal.returns-in-len1-clause-grown
@@ -25,15 +25,15 @@ returns-in-len1-clause-grown g c =
     let old = c.args.work.now in let mid = c.add_rup.new.self in let k : Literal = c.lit-item.result in
     let is = only c.args.lits.now k c.in-len1.len_at_least c.in-len1.len_below c.lit-item.is in
     let came : Came old mid (k ∷ []) = subst (Came old mid) is
-    (came_added old mid c.args.lits.now c.in_ok-add_rup.field-0 c.requires.unspent c.requires.comes.some c.requires.comes.ordered c.in_ok-add_rup.ensures.work c.in_ok-add_rup.ensures.added (_, c.in_ok-add_rup.ensures.log)) in
+    (came_added old mid c.args.lits.now c.in_ok-add_rup.field-0 c.requires.unspent c.requires.comes.some c.requires.comes.ordered c.in_ok-add_rup.ensures.work c.in_ok-add_rup.ensures.added (_, c.in_ok-add_rup.ensures.log.entries)) in
     subst (λ (xs : List Literal). WasGrown old c.unit.new.self (xs ∷ []) c.unit.result) (sym is)
-    (was_grown_unit old mid c.unit.new.self k came c.unit.ensures.work (_, c.unit.ensures.log) c.unit.result c.unit.ensures.listed)
+    (was_grown_unit old mid c.unit.new.self k came c.unit.ensures.work (_, c.unit.ensures.log.entries) c.unit.result c.unit.ensures.listed)
 
 pub returns-in_default-2-clause-grown : goal.returns-in_default-2-clause-grown
 returns-in_default-2-clause-grown g c =
     let old = c.args.work.now in let mid = c.add_rup.new.self in
     grown_long old mid c.args.lits.now
-    (came_added old mid c.args.lits.now c.in_ok-add_rup.field-0 c.requires.unspent c.requires.comes.some c.requires.comes.ordered c.in_ok-add_rup.ensures.work c.in_ok-add_rup.ensures.added (_, c.in_ok-add_rup.ensures.log))
+    (came_added old mid c.args.lits.now c.in_ok-add_rup.field-0 c.requires.unspent c.requires.comes.some c.requires.comes.ordered c.in_ok-add_rup.ensures.work c.in_ok-add_rup.ensures.added (_, c.in_ok-add_rup.ensures.log.entries))
     (λ l. long l c.args.lits.now c.in_default.len_at_least)
   where
     long : (l : Literal) (xs : List Literal) → 2 ≤ length xs → is_only l xs ≡ false

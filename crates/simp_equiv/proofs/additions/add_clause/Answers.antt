@@ -14,9 +14,9 @@ pub returns-in-len1-clause-grown : goal.returns-in-len1-clause-grown
 returns-in-len1-clause-grown g c =
     subst (λ (xs : List Literal). WasGrown c.args.work.now c.unit.new.self xs c.unit.result)
     (only c.lits.result.now c.lit-item.result c.in-len1.len_at_least c.in-len1.len_below c.lit-item.is ∙ c.lits.ensures.value)
-    (was_listed c.args.work.now c.unit.new.self c.lit-item.result c.requires.going c.requires.unspent c.unit.ensures.work (_, c.unit.ensures.log) c.unit.result c.unit.ensures.listed)
+    (was_listed c.args.work.now c.unit.new.self c.lit-item.result c.requires.going c.requires.unspent c.unit.ensures.work (_, c.unit.ensures.log.entries) c.unit.result c.unit.ensures.listed)
 
 pub returns-in_ok-add_rup-in_default-clause-grown : goal.returns-in_ok-add_rup-in_default-clause-grown
 returns-in_ok-add_rup-in_default-clause-grown g c =
     subst (λ (xs : List Literal). Grown c.args.work.now c.add_rup.new.self xs) c.lits.ensures.value
-    (grown_added c.args.work.now c.add_rup.new.self c.lits.result.now c.in_ok-add_rup-in_default.field-0 c.requires.unspent (ap is_empty c.lits.ensures.value ∙ c.requires.some) c.in_ok-add_rup-in_default.ensures.work c.in_ok-add_rup-in_default.ensures.added (_, c.in_ok-add_rup-in_default.ensures.log))
+    (grown_added c.args.work.now c.add_rup.new.self c.lits.result.now c.in_ok-add_rup-in_default.field-0 c.requires.unspent (ap is_empty c.lits.ensures.value ∙ c.requires.some) c.in_ok-add_rup-in_default.ensures.work c.in_ok-add_rup-in_default.ensures.added (_, c.in_ok-add_rup-in_default.ensures.log.entries))

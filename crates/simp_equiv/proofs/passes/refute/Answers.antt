@@ -31,8 +31,8 @@ unit-requires-clause-rup g c = subst (λ (k : Literal). rup (known c.args.work.n
 ended : (old mid new : WorkState) (number : ℕ) → GoesOn old mid → Added mid new [] number → Ended old new
 ended old mid new number g h = record {
   ended = ap (λ (w : WorkState). w.ended) h.state;
-  unspent = ap (λ (s : LineState). s.spent) h.put.state ∙ g.unspent;
-  quiet = ap (λ (s : LineState). s.faults) h.put.state ∙ g.quiet;
+  unspent = ap (λ (s : LineState). s.spent) h.line.put.state ∙ g.unspent;
+  quiet = ap (λ (s : LineState). s.faults) h.line.put.state ∙ g.quiet;
 }
 
 pub add_rup-requires-clause-rup : goal.add_rup-requires-clause-rup
@@ -40,16 +40,16 @@ add_rup-requires-clause-rup g c =
     let old = c.args.work.now in let new = c.unit.new.self in
     conflict_follows old new c.args.lit c.requires.clash
     (subst (λ (k : Literal). Grown old new (k ∷ [])) c.not.ensures
-    (was_listed old new c.not.result c.requires.going c.requires.unspent c.in_ok-unit.ensures.work (_, c.in_ok-unit.ensures.log) (Ok c.in_ok-unit.field-0) c.in_ok-unit.ensures.listed))
+    (was_listed old new c.not.result c.requires.going c.requires.unspent c.in_ok-unit.ensures.work (_, c.in_ok-unit.ensures.log.entries) (Ok c.in_ok-unit.field-0) c.in_ok-unit.ensures.listed))
 
 pub returns-in_err-add_rup-clause-log : goal.returns-in_err-add_rup-clause-log
-returns-in_err-add_rup-clause-log g c = logs_along c.args.work.now c.unit.new.self c.add_rup.new.self (_, c.in_ok-unit.ensures.log) (_, c.in_err-add_rup.ensures.log)
+returns-in_err-add_rup-clause-log g c = logs_along c.args.work.now c.unit.new.self c.add_rup.new.self (_, c.in_ok-unit.ensures.log.entries) (_, c.in_err-add_rup.ensures.log.entries)
 
 pub returns-clause-log : goal.returns-clause-log
-returns-clause-log g c = logs_along c.args.work.now c.unit.new.self c.add_rup.new.self (_, c.in_ok-unit.ensures.log) (_, c.in_ok-add_rup.ensures.log)
+returns-clause-log g c = logs_along c.args.work.now c.unit.new.self c.add_rup.new.self (_, c.in_ok-unit.ensures.log.entries) (_, c.in_ok-add_rup.ensures.log.entries)
 
 pub returns-clause-ends : goal.returns-clause-ends
 returns-clause-ends g c =
     let old = c.args.work.now in let mid = c.unit.new.self in let new = c.add_rup.new.self in
-    let grown : Grown old mid (c.not.result ∷ []) = was_listed old mid c.not.result c.requires.going c.requires.unspent c.in_ok-unit.ensures.work (_, c.in_ok-unit.ensures.log) (Ok c.in_ok-unit.field-0) c.in_ok-unit.ensures.listed in
+    let grown : Grown old mid (c.not.result ∷ []) = was_listed old mid c.not.result c.requires.going c.requires.unspent c.in_ok-unit.ensures.work (_, c.in_ok-unit.ensures.log.entries) (Ok c.in_ok-unit.field-0) c.in_ok-unit.ensures.listed in
     ended old mid new c.in_ok-add_rup.field-0 grown.on c.in_ok-add_rup.ensures.added

@@ -48,4 +48,4 @@ returns-in_ok-add_rup-in-Part-clause-tidied g c =
     let t = subst (IsLeftAt w a c.args.number) c.in-Part.is c.in_ok-left_at.ensures.what in
     tidied_part w c.add_rup.new.self c.delete-in-Part.new.self a c.args.number t.0 c.as_slice.result.now c.in_ok-add_rup-in-Part.field-0 c.requires.set t.1
     (record { long = t.2.long; no_opposites = t.2.no_opposites; open_yet = t.2.open_yet; is = c.as_slice.ensures.value ∙ t.2.is }) (c.requires.settled c.args.number t.0 t.1)
-    c.in_ok-add_rup-in-Part.ensures.added c.in_ok-add_rup-in-Part.ensures.work (_, c.in_ok-add_rup-in-Part.ensures.log) c.delete-in-Part.ensures.work (_, c.delete-in-Part.ensures.log) c.delete-in-Part.result c.delete-in-Part.ensures.deleted
+    c.in_ok-add_rup-in-Part.ensures.added c.in_ok-add_rup-in-Part.ensures.work (_, c.in_ok-add_rup-in-Part.ensures.log.entries) c.delete-in-Part.ensures.work (_, c.delete-in-Part.ensures.log) c.delete-in-Part.result c.delete-in-Part.ensures.deleted

@@ -1,9 +1,22 @@
-use Rattle.std.proofs.Common.{◌++◌, subst}
+use Rattle.std.proofs.Common.{◌≡◌, ◌∙◌, ◌++◌, false, List, ap, sym, subst}
 use Rattle.std.specs.Prelude.{Ok}
+use Rattle.sat_words.specs.Literal.{Literal}
+use Rattle.sat_words.specs.Formats.{has_hints}
+use Rattle.rup_model.specs.declared.journal.Entry.{Entry}
+use Rattle.drat_text.specs.LineState.{LineState}
+use Rattle.ruler_simp.specs.declared.ruling.Simplified.{Simplified}
 use Rattle.ruler_simp.specs.declared.ruling.Outcome.TheVariants.{Simplified as LeftOver}
+use Rattle.ruler_simp.specs.declared.rounds.Schedule.{Schedule}
 use Rattle.simp_base.specs.WorkState.{WorkState, resumed}
-use Rattle.ruler_simp.specs.Again.{RuledAgain}
+use Rattle.ruler_simp.specs.Again.{RuledAgain, ResumesAs}
 use Rattle.test_ruler.proofs.again.go_on.Goals as goal
+
+-- the format stays
+plain_after : (F : List (List Literal)) (schedule : Schedule) (start : WorkState) (new : LineState) (s : Simplified) (was : RuledAgain F schedule start new (Ok (LeftOver s))) (J : List Entry)
+    → ResumesAs F start J → has_hints start.output.format ≡ false → has_hints new.format ≡ false
+plain_after F schedule start new s was J r plain =
+    ap (λ (x : LineState). has_hints x.format) was.output
+    ∙ ap has_hints ((was.stands J r).lines.whole (sym (ap (λ (x : LineState). x.spent) was.output) ∙ (was.answer J r).1.unspent)).format ∙ plain
 
 pub returns : goal.returns
 returns c s is =
@@ -16,8 +29,10 @@ returns c s is =
     let J = c.requires.resumes.0 in
     let r = c.requires.resumes.1 in
     let h = was.answer J r in
+    let plain : has_hints out.format ≡ false = plain_after F schedule start out s was J r c.requires.plain in
     record {
       on = h.0.on;
       unspent = h.1.unspent;
-      resumes = (J ++ was.entries, c.what_is_left_resumes.ensures.again F schedule start out s was J r);
+      plain = plain;
+      resumes = (J ++ was.entries, c.what_is_left_resumes.ensures.again F schedule start out s was J r plain);
     }

@@ -1,7 +1,6 @@
-use Rattle.std.proofs.Common.{◌≡◌, ◌∙◌, ◌∷◌, [], ◌++◌, ℕ, List, All, length, Some, sym, ap, refl, subst, arith}
-use Rattle.sat_words.specs.Literal.{Literal, IsOn}
-use Rattle.sat_words.specs.Clause.{is_empty}
-use Rattle.sat_words.specs.declared.line.Line.TheVariants.{Add as AddLine}
+use Rattle.std.proofs.Common.{◌≡◌, ◌∙◌, ◌∷◌, [], ◌++◌, ◌+◌, ℕ, List, length, Some, sym, ap, refl, subst, arith}
+use Rattle.sat_words.specs.Literal.{Literal}
+use Rattle.rup_model.specs.NumberedLines.{Added}
 use Rattle.clause_cell.specs.Packing.{words_for}
 use Rattle.clause_cell.specs.declared.holes.HoleStop.{HoleStop}
 use Rattle.clause_cell.specs.declared.holes.HoleStop.TheVariants.{NoHole, Memory}
@@ -17,7 +16,7 @@ use Rattle.share_rule.specs.Turns.{next_number}
 use Rattle.share_rule.specs.Views.{only}
 use Rattle.share_rule.proofs.Sheets.{long_entry}
 use Rattle.log_book.specs.Turns.{sheet}
-use Rattle.log_book.proofs.Standings.{line_turn, failed_turn, stopped_either, stopped_room}
+use Rattle.log_book.proofs.Standings.{line_turn, failed_turn, next_given, stopped_either, stopped_room}
 use Rattle.log_book.proofs.Waits.{all_on, few_lits, not_empty}
 use Rattle.log_book.proofs.turn.Turn.write_clause.Goals as goal
 
@@ -30,7 +29,7 @@ returns-in_default-from_slice-clause-stopped g c =
 -- or for the line
 pub returns-then-is_err-clause-stopped : goal.returns-then-is_err-clause-stopped
 returns-then-is_err-clause-stopped g c =
-    stopped_either g.S.Sink.written g.S.Sink.flushed g.S.Sink.target g.S.Sink.faults c.args.pass.now.me.0 c.args.self.now c.requires.seen c.requires.turn c.make_room.new.self c.make_room.ensures.noted.0 c.make_room.ensures.noted.1 c.make_room.ensures.same
+    stopped_either g.S.Sink.written g.S.Sink.flushed g.S.Sink.target g.S.Sink.faults c.args.pass.now.me.0 c.args.self.now c.requires.seen c.requires.turn c.make_room_to_add.new.self c.make_room_to_add.ensures.noted.0 c.make_room_to_add.ensures.noted.1 c.make_room_to_add.ensures.same
     c.in_default.ensures.going.1 c.args.kind c.args.lits.now c.words_for-need.result c.requires.note c.words_for-need.ensures c.no_memory-then-is_err.result c.no_memory-then-is_err.ensures
 
 -- no hole is long enough
@@ -44,85 +43,89 @@ most_of Memory = 0
 
 pub returns-in-Err-NoHole-clause-stopped : goal.returns-in-Err-NoHole-clause-stopped
 returns-in-Err-NoHole-clause-stopped g c =
-    let same = c.make_room.ensures.same in
+    let same = c.make_room_to_add.ensures.same in
     let e = c.in-Err-NoHole in
     let none = e.ensures.none in
     let told = sym e.field-0-is ∙ none.0 in
     let need = e.need-is ∙ ap need_of told in
     let most = e.largest-is ∙ ap most_of told in
     let short = none.1 in
-    stopped_room g.S.Sink.written g.S.Sink.flushed g.S.Sink.target g.S.Sink.faults c.args.pass.now.me.0 c.args.self.now c.requires.seen c.requires.turn _ c.make_room.ensures.noted.0 c.make_room.ensures.noted.1
+    stopped_room g.S.Sink.written g.S.Sink.flushed g.S.Sink.target g.S.Sink.faults c.args.pass.now.me.0 c.args.self.now c.requires.seen c.requires.turn _ c.make_room_to_add.ensures.noted.0 c.make_room_to_add.ensures.noted.1
     (record { lines = same.lines; kept = same.kept; entries = same.entries; ended = same.ended; holes = e.ensures.back ∙ same.holes })
     c.in_default.ensures.going.1 c.args.kind c.args.lits.now _ c.requires.note (need ∙ c.words_for-need.ensures) _ (most ∙ ap largest (sym e.ensures.back)) (omega (arith, need, most, short))
 
-pub returns-in-Ok-write-clause-added : goal.returns-in-Ok-write-clause-added
-returns-in-Ok-write-clause-added g c =
+pub returns-in-Ok-write_addition-clause-added : goal.returns-in-Ok-write_addition-clause-added
+returns-in-Ok-write_addition-clause-added g c =
     let v : View = c.args.pass.now.me.0 in
     let t = c.args.self.now in
     let h = c.requires.turn in
     let could = c.in_default.ensures.going in
-    let same = c.make_room.ensures.same in
+    let same = c.make_room_to_add.ensures.same in
     let lits : List Literal = c.args.lits.now in
+    let b = c.make_room_to_add.new.self.book in
+    let given = next_given g.S.Sink.written g.S.Sink.flushed g.S.Sink.target g.S.Sink.faults v t c.requires.seen h b same.lines in
     let a : ℕ = c.in-Ok-take.address in
     let note : Note = Clause c.args.kind lits c.args.glue a in
     let m : Room = room v.layout v.opening (sheet v t).journal in
     let need : ℕ = words_for (length lits) in
     let need_is : c.words_for-need.result ≡ need = c.words_for-need.ensures in
-    let holes_are : c.make_room.new.self.book.holes ≡ m.holes = same.holes ∙ h.stands.holes could.1 in
+    let holes_are : c.make_room_to_add.new.self.book.holes ≡ m.holes = same.holes ∙ h.stands.holes could.1 in
     let fit : first_fit need m.holes ≡ Some a = (λ i. first_fit (sym need_is i) (sym holes_are i)) ∙ c.in-Ok-take.ensures.found in
     let k = c.requires.note in
     let long = (k.1).long in
-    let copied : c.lits_in.result ≡ lits = c.lits_in.ensures ∙ c.in-Ok.ensures in
-    let noted_is = c.push_reserved.ensures.items ∙ (λ i. c.make_room.ensures.noted.0 i ++ Clause c.args.kind (copied i) c.args.glue a ∷ []) in
+    let copied = c.in-Ok.ensures in
+    let noted_is = c.push_reserved.ensures.items ∙ (λ i. c.make_room_to_add.ensures.noted.0 i ++ Clause c.args.kind (copied i) c.args.glue a ∷ []) in
     let last = h.stands.log.last in
-    let stood = line_turn g.S.Sink.written g.S.Sink.flushed g.S.Sink.target g.S.Sink.faults v t c.requires.seen h note could (k.0, k.1, k.2, k.3, fit) _ refl _ (AddLine c.in-Ok.copy) _ (λ i. AddLine (sym c.in-Ok.ensures i) ∷ []) noted_is c.make_room.ensures.noted.1
-    _ same.lines same.entries same.ended same.kept c.write.new.self c.in-Ok-write.ensures refl refl refl
-    (c.in-Ok-write.ensures.holes ∙ c.in-Ok-take.ensures.left ∙ (λ i. without_fit (need_is i) (holes_are i)) ∙ sym (ap (λ (q : Room). q.holes) (long_entry m (next_number v.opening (sheet v t).journal) lits (only v).core.ring c.args.kind long ∙ ap (with_clause (next_number v.opening (sheet v t).journal) (length lits) m) fit)))
-    (omega arith) (ap is_empty c.in-Ok.ensures ∙ (not_empty lits long).0 ∙ sym (not_empty lits long).1) in
+    let stood = line_turn g.S.Sink.written g.S.Sink.flushed g.S.Sink.target g.S.Sink.faults v t c.requires.seen h note could (k.0, k.1, k.2, k.3, fit) _ refl _ (Added (b.log.lines.last + 1) lits []) (λ i. Added (given i) lits [] ∷ []) noted_is c.make_room_to_add.ensures.noted.1
+    _ same.lines same.entries same.ended same.kept c.write_addition.new.self c.in-Ok-write_addition.ensures.put refl refl refl
+    (c.in-Ok-write_addition.ensures.put.holes ∙ c.in-Ok-take.ensures.left ∙ (λ i. without_fit (need_is i) (holes_are i)) ∙ sym (ap (λ (q : Room). q.holes) (long_entry m (next_number v.opening (sheet v t).journal) lits (only v).core.ring c.args.kind long ∙ ap (with_clause (next_number v.opening (sheet v t).journal) (length lits) m) fit)))
+    (omega arith) ((not_empty lits long).0 ∙ sym (not_empty lits long).1) in
     record {
       noted = noted_is;
-      refused = c.make_room.ensures.noted.1;
+      refused = c.make_room_to_add.ensures.noted.1;
       turn = stood.0;
       going = could;
       whole = stood.1;
     }
 
-pub returns-in-Err-write-clause-stopped : goal.returns-in-Err-write-clause-stopped
-returns-in-Err-write-clause-stopped g c =
+pub returns-in-Err-write_addition-clause-stopped : goal.returns-in-Err-write_addition-clause-stopped
+returns-in-Err-write_addition-clause-stopped g c =
     let v : View = c.args.pass.now.me.0 in
     let t = c.args.self.now in
     let h = c.requires.turn in
     let could = c.in_default.ensures.going in
-    let same = c.make_room.ensures.same in
+    let same = c.make_room_to_add.ensures.same in
     let lits : List Literal = c.args.lits.now in
+    let b = c.make_room_to_add.new.self.book in
+    let given = next_given g.S.Sink.written g.S.Sink.flushed g.S.Sink.target g.S.Sink.faults v t c.requires.seen h b same.lines in
     let a : ℕ = c.in-Ok-take.address in
     let note : Note = Clause c.args.kind lits c.args.glue a in
     let m : Room = room v.layout v.opening (sheet v t).journal in
     let need : ℕ = words_for (length lits) in
     let need_is : c.words_for-need.result ≡ need = c.words_for-need.ensures in
-    let holes_are : c.make_room.new.self.book.holes ≡ m.holes = same.holes ∙ h.stands.holes could.1 in
+    let holes_are : c.make_room_to_add.new.self.book.holes ≡ m.holes = same.holes ∙ h.stands.holes could.1 in
     let fit : first_fit need m.holes ≡ Some a = (λ i. first_fit (sym need_is i) (sym holes_are i)) ∙ c.in-Ok-take.ensures.found in
     let k = c.requires.note in
     let long = (k.1).long in
-    let f = failed_turn g.S.Sink.written g.S.Sink.flushed g.S.Sink.target g.S.Sink.faults v t c.requires.seen h note could (k.0, k.1, k.2, k.3, fit) _ refl _ (AddLine c.in-Ok.copy) (λ i. AddLine (sym c.in-Ok.ensures i) ∷ []) (subst (λ (ks : List Literal). All (IsOn v.layout.vars) ks) (sym c.in-Ok.ensures) (all_on v.layout lits k.3)) c.make_room.ensures.noted.0 c.make_room.ensures.noted.1
-    _ same.lines same.entries same.ended same.kept c.write.new.self c.in-Err-write.ensures refl refl refl in
-    record { noted = c.make_room.ensures.noted.0; refused = c.make_room.ensures.noted.1; turn = f.0; grounded = f.1; alike = λ ne. absurd (ne refl) }
+    let f = failed_turn g.S.Sink.written g.S.Sink.flushed g.S.Sink.target g.S.Sink.faults v t c.requires.seen h note could (k.0, k.1, k.2, k.3, fit) _ refl _ (Added (b.log.lines.last + 1) lits []) (λ i. Added (given i) lits [] ∷ []) (all_on v.layout lits k.3) c.make_room_to_add.ensures.noted.0 c.make_room_to_add.ensures.noted.1
+    _ same.lines same.entries same.ended same.kept c.write_addition.new.self c.in-Err-write_addition.ensures.put refl refl refl in
+    record { noted = c.make_room_to_add.ensures.noted.0; refused = c.make_room_to_add.ensures.noted.1; turn = f.0; grounded = f.1; alike = λ ne. absurd (ne refl) }
 
-pub returns-in-Err-write-clause-cause : goal.returns-in-Err-write-clause-cause
-returns-in-Err-write-clause-cause g c =
+pub returns-in-Err-write_addition-clause-cause : goal.returns-in-Err-write_addition-clause-cause
+returns-in-Err-write_addition-clause-cause g c =
     let v : View = c.args.pass.now.me.0 in
     let t = c.args.self.now in
     let h = c.requires.turn in
     let could = c.in_default.ensures.going in
-    let same = c.make_room.ensures.same in
+    let same = c.make_room_to_add.ensures.same in
     let lits : List Literal = c.args.lits.now in
     let m : Room = room v.layout v.opening (sheet v t).journal in
     let need : ℕ = words_for (length lits) in
     let need_is : c.words_for-need.result ≡ need = c.words_for-need.ensures in
-    let holes_are : c.make_room.new.self.book.holes ≡ m.holes = same.holes ∙ h.stands.holes could.1 in
+    let holes_are : c.make_room_to_add.new.self.book.holes ≡ m.holes = same.holes ∙ h.stands.holes could.1 in
     let fit : first_fit need m.holes ≡ Some c.in-Ok-take.address = (λ i. first_fit (sym need_is i) (sym holes_are i)) ∙ c.in-Ok-take.ensures.found in
-    let f = c.in-Err-write.ensures.failed in (
-      (could.0, could.1, ap (λ (s : LineState). s.spent) f.state, subst (λ (n : ℕ). Rose n (g.S.Sink.faults c.write.new.self.log.lines.sink)) (λ i. g.S.Sink.faults (same.lines i).sink) f.rose),
+    let f = c.in-Err-write_addition.ensures.put.failed in (
+      (could.0, could.1, ap (λ (s : LineState). s.spent) f.state, subst (λ (n : ℕ). Rose n (g.S.Sink.faults c.write_addition.new.self.log.lines.sink)) (λ i. g.S.Sink.faults (same.lines i).sink) f.rose),
       some_largest need m.holes c.in-Ok-take.address fit,
     )
 

@@ -1,44 +1,45 @@
-use Rattle.std.proofs.Common.{◌∙◌, ◌∷◌, [], ◌++◌, List, ap, refl, subst, arith}
-use Rattle.sat_words.specs.Literal.{Literal}
-use Rattle.sat_words.specs.declared.line.Line.TheVariants.{Add as AddLine}
+use Rattle.std.proofs.Common.{◌∙◌, ◌+◌, ◌∷◌, [], ◌++◌, List, ap, refl, arith}
+use Rattle.rup_model.specs.NumberedLines.{Added}
 use Rattle.share_rule.specs.declared.note.Note.{Note}
 use Rattle.share_rule.specs.declared.note.Note.TheVariants.{Unit as UnitNote}
 use Rattle.share_rule.specs.declared.view.View.{View}
-use Rattle.log_book.specs.Books.{HasPut, HasFailed}
-use Rattle.log_book.proofs.Standings.{line_turn, failed_turn}
+use Rattle.log_book.proofs.Standings.{line_turn, failed_turn, next_given}
 use Rattle.log_book.proofs.Waits.{all_on}
 use Rattle.log_book.proofs.turn.Turn.write_unit.Goals as goal
 
-pub returns-in-Ok-write-clause-added : goal.returns-in-Ok-write-clause-added
-returns-in-Ok-write-clause-added g c =
+pub returns-in-Ok-clause-added : goal.returns-in-Ok-clause-added
+returns-in-Ok-clause-added g c =
     let v : View = c.args.pass.now.me.0 in
     let t = c.args.self.now in
     let h = c.requires.turn in
     let note : Note = UnitNote c.args.kind c.args.lit in
     let could = c.in_default.ensures.going in
-    let same = c.make_room.ensures.same in
-    let put = subst (λ (ls : List Literal). HasPut g.S.Sink.written g.S.Sink.flushed g.S.Sink.target g.S.Sink.faults c.make_room.new.self.book c.write.new.self (AddLine ls) c.in-Ok-write.number) c.in-Ok.ensures c.in-Ok-write.ensures in
-    let noted_is = c.push_reserved.ensures.items ∙ ap (λ (ns : List Note). ns ++ note ∷ []) c.make_room.ensures.noted.0 in
+    let b = c.make_room_to_add.new.self.book in
+    let same = c.make_room_to_add.ensures.same in
+    let given = next_given g.S.Sink.written g.S.Sink.flushed g.S.Sink.target g.S.Sink.faults v t c.requires.seen h b same.lines in
+    let put = c.in-Ok.ensures.put in
+    let noted_is = c.push_reserved.ensures.items ∙ ap (λ (ns : List Note). ns ++ note ∷ []) c.make_room_to_add.ensures.noted.0 in
     let last = h.stands.log.last in
-    let stood = line_turn g.S.Sink.written g.S.Sink.flushed g.S.Sink.target g.S.Sink.faults v t c.requires.seen h note could c.requires.note _ refl _ (AddLine (c.args.lit ∷ [])) c.in-Ok-write.number refl noted_is c.make_room.ensures.noted.1
-    c.make_room.new.self.book same.lines same.entries same.ended same.kept c.write.new.self put refl refl refl (put.holes ∙ same.holes ∙ h.stands.holes could.1) (omega arith) refl in
+    let stood = line_turn g.S.Sink.written g.S.Sink.flushed g.S.Sink.target g.S.Sink.faults v t c.requires.seen h note could c.requires.note _ refl _ (Added (b.log.lines.last + 1) (c.args.lit ∷ []) []) (λ i. Added (given i) (c.args.lit ∷ []) [] ∷ []) noted_is c.make_room_to_add.ensures.noted.1
+    b same.lines same.entries same.ended same.kept c.write_addition.new.self put refl refl refl (put.holes ∙ same.holes ∙ h.stands.holes could.1) (omega arith) refl in
     record {
       noted = noted_is;
-      refused = c.make_room.ensures.noted.1;
+      refused = c.make_room_to_add.ensures.noted.1;
       turn = stood.0;
       going = could;
       whole = stood.1;
     }
 
-pub returns-clause-stopped : goal.returns-clause-stopped
-returns-clause-stopped g c =
+pub returns-in-Err-write_addition-clause-stopped : goal.returns-in-Err-write_addition-clause-stopped
+returns-in-Err-write_addition-clause-stopped g c =
     let v : View = c.args.pass.now.me.0 in
     let t = c.args.self.now in
     let h = c.requires.turn in
     let note : Note = UnitNote c.args.kind c.args.lit in
     let could = c.in_default.ensures.going in
-    let same = c.make_room.ensures.same in
-    let failed = subst (λ (ls : List Literal). HasFailed g.S.Sink.written g.S.Sink.flushed g.S.Sink.target g.S.Sink.faults c.make_room.new.self.book c.write.new.self (AddLine ls)) c.in-Ok.ensures c.in-Err-write.ensures in
-    let f = failed_turn g.S.Sink.written g.S.Sink.flushed g.S.Sink.target g.S.Sink.faults v t c.requires.seen h note could c.requires.note _ refl _ (AddLine (c.args.lit ∷ [])) refl (all_on v.layout (c.args.lit ∷ []) c.requires.note.2) c.make_room.ensures.noted.0 c.make_room.ensures.noted.1
-    c.make_room.new.self.book same.lines same.entries same.ended same.kept c.write.new.self failed refl refl refl in
-    record { noted = c.make_room.ensures.noted.0; refused = c.make_room.ensures.noted.1; turn = f.0; grounded = f.1; alike = λ ne. absurd (ne refl) }
+    let b = c.make_room_to_add.new.self.book in
+    let same = c.make_room_to_add.ensures.same in
+    let given = next_given g.S.Sink.written g.S.Sink.flushed g.S.Sink.target g.S.Sink.faults v t c.requires.seen h b same.lines in
+    let f = failed_turn g.S.Sink.written g.S.Sink.flushed g.S.Sink.target g.S.Sink.faults v t c.requires.seen h note could c.requires.note _ refl _ (Added (b.log.lines.last + 1) (c.args.lit ∷ []) []) (λ i. Added (given i) (c.args.lit ∷ []) [] ∷ []) (all_on v.layout (c.args.lit ∷ []) c.requires.note.2) c.make_room_to_add.ensures.noted.0 c.make_room_to_add.ensures.noted.1
+    b same.lines same.entries same.ended same.kept c.write_addition.new.self c.in-Err-write_addition.ensures.put refl refl refl in
+    record { noted = c.make_room_to_add.ensures.noted.0; refused = c.make_room_to_add.ensures.noted.1; turn = f.0; grounded = f.1; alike = λ ne. absurd (ne refl) }

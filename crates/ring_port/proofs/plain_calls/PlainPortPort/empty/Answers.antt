@@ -1,7 +1,7 @@
 use Rattle.std.proofs.Common.{◌≡◌, sym, subst, ◌∙◌, true, [], arith, ◌-◌, vec_len}
 use Rattle.std.specs.Vec.{vec_capacity}
 use Rattle.std.specs.List.{All}
-use Rattle.sat_words.specs.declared.line.Line.TheVariants.{Add as AddLine}
+use Rattle.drat_text.specs.LineOut.{added_line}
 use Rattle.rup_model.specs.declared.journal.Kind.TheVariants.{Derive}
 use Rattle.rup_model.specs.Rup.{rup}
 use Rattle.ring_port.specs.PortState.{IsOn, known}
@@ -27,7 +27,7 @@ returns-clause-log g c =
     let follows : rup (known (state_of p)) [] ≡ true = subst (λ s. rup (known s) [] ≡ true) (sym (state_is c.self.view_is)) c.requires.rup in
     let added : AddedEntry (record i.log { room = c.make_room.new.self.room }) c.add.new.self [] Derive c.in_ok-add.field-0 =
     subst (λ k. AddedEntry k c.add.new.self [] Derive c.in_ok-add.field-0) c.make_room.ensures.same
-    (subst (λ ls. AddedEntry c.make_room.new.self c.add.new.self ls Derive c.in_ok-add.field-0) (c.from_vec.ensures ∙ c.new.ensures.items) c.in_ok-add.ensures) in
+    (subst (λ ls. AddedEntry c.make_room.new.self c.add.new.self ls Derive c.in_ok-add.field-0) (c.from_vec-none.ensures ∙ c.new.ensures.items) c.in_ok-add.ensures) in
     subst (λ s. KeepsLog s (state_of (record p { log = c.end.new.self }))) (state_is c.self.view_is)
     (subst (λ k. KeepsLog (state_of p) (state_of (record p { log = k }))) (sym c.end.ensures)
     (empty_keeps p c.make_room.new.self.room c.add.new.self Derive c.in_ok-add.field-0 usable follows added))
@@ -45,9 +45,9 @@ returns-in_err-add-clause-log g c =
     let usable : is_usable i.log.refused ≡ true = subst (λ s. is_usable s.refused ≡ true) (sym (state_is c.self.view_is)) c.requires.usable in
     let follows : rup (known (state_of p)) [] ≡ true = subst (λ s. rup (known s) [] ≡ true) (sym (state_is c.self.view_is)) c.requires.rup in
     let none : All (IsOn i.vars) [] = λ k d lt. absurd (omega arith) in
-    let why : NotPut (record i.log { room = c.make_room.new.self.room }) c.add.new.self (AddLine []) c.in_err-add.field-0.0 =
-    subst (λ k. NotPut k c.add.new.self (AddLine []) c.in_err-add.field-0.0) c.make_room.ensures.same
-    (subst (λ ls. NotPut c.make_room.new.self c.add.new.self (AddLine ls) c.in_err-add.field-0.0) (c.from_vec.ensures ∙ c.new.ensures.items) c.in_err-add.ensures) in
+    let why : NotPut (record i.log { room = c.make_room.new.self.room }) c.add.new.self (added_line i.log.output [] []) c.in_err-add.field-0.0 =
+    subst (λ k. NotPut k c.add.new.self (added_line k.output [] []) c.in_err-add.field-0.0) c.make_room.ensures.same
+    (subst (λ ls. NotPut c.make_room.new.self c.add.new.self (added_line c.make_room.new.self.output ls []) c.in_err-add.field-0.0) (c.from_vec-none.ensures ∙ c.new.ensures.items) c.in_err-add.ensures) in
     subst (λ s. KeepsLog s (state_of (record p { log = c.add.new.self }))) (state_is c.self.view_is)
     (refused_keeps p c.make_room.new.self.room c.add.new.self [] c.in_err-add.field-0.0 usable none follows why)
 

@@ -1,8 +1,9 @@
-use Rattle.std.proofs.Common.{◌≡◌, ◌-◌, ◌≤◌, List, length, drop, sym, ap, subst, ◌∙◌, true, Some, IfSome, vec_len}
+use Rattle.std.proofs.Common.{◌≡◌, ◌-◌, ◌≤◌, List, length, drop, sym, ap, subst, ◌∙◌, true, Some, IfSome, vec_len, ℕ}
 use Rattle.std.specs.Vec.{vec_capacity}
 use Rattle.std.specs.List.{slice_get}
 use Rattle.std.specs.declared.option.Option.{Option}
-use Rattle.sat_words.specs.declared.line.Line.TheVariants.{Del as DelLine}
+use Rattle.sat_words.specs.Literal.{Literal}
+use Rattle.drat_text.specs.LineOut.{deleted_line}
 use Rattle.ring_port.specs.PortState.{Holding, IsPort, head_of}
 use Rattle.ring_port.specs.Port.{is_usable}
 use Rattle.ring_port.specs.Log.{KeepsLog}
@@ -47,9 +48,11 @@ returns-in_err-delete-clause-log g c =
     let usable : is_usable i.log.refused ≡ true = subst (λ s. is_usable s.refused ≡ true) (sym (state_is c.self.view_is)) c.requires.usable in
     let there : slice_get c.free_last.new.self.waiting 0 ≡ Some x.0 = ap (λ (s : StoreData). slice_get s.waiting 0) c.free_last.ensures.same ∙ x.1 in
     let lits : c.in-Ok.lits.items ≡ x.0.lits = subst (λ (o : Option Holding). IfSome o (λ h. c.in-Ok.lits.items ≡ h.lits)) there c.in-Ok.ensures in
-    let why : NotPut (record i.log { room = c.make_room.new.self.room }) c.delete.new.self (DelLine x.0.lits) c.in_err-delete.field-0.0 =
-    subst (λ k. NotPut k c.delete.new.self (DelLine x.0.lits) c.in_err-delete.field-0.0) c.make_room.ensures.same
-    (subst (λ ls. NotPut c.make_room.new.self c.delete.new.self (DelLine ls) c.in_err-delete.field-0.0) (c.from_vec.ensures ∙ lits) c.in_err-delete.ensures) in
+    let same_lits : c.as_slice.result.now ≡ x.0.lits = c.as_slice.ensures.value ∙ lits in
+    let number : c.first_head-number.result.number ≡ x.0.number = ap (λ r. r.number) (subst (λ (o : Option Holding). IfSome o (λ h. c.first_head-number.result ≡ head_of h)) there c.first_head-number.ensures) in
+    let why : NotPut (record i.log { room = c.make_room.new.self.room }) c.delete.new.self (deleted_line i.log.output x.0.number x.0.lits) c.in_err-delete.field-0.0 =
+    subst (λ k. NotPut k c.delete.new.self (deleted_line k.output x.0.number x.0.lits) c.in_err-delete.field-0.0) c.make_room.ensures.same
+    (subst (λ (z : ℕ × List Literal). NotPut c.make_room.new.self c.delete.new.self (deleted_line c.make_room.new.self.output z.0 z.1) c.in_err-delete.field-0.0) (λ j. (number j, same_lits j)) c.in_err-delete.ensures) in
     subst (λ s. KeepsLog s (state_of (record p { start = c.free_last.new.self.start; held = c.free_last.new.self.held; waiting = c.free_last.new.self.waiting; log = c.delete.new.self }))) (state_is c.self.view_is)
     (subst (λ (s : StoreData). KeepsLog (state_of p) (state_of (record p { start = s.start; held = s.held; waiting = s.waiting; log = c.delete.new.self }))) (sym c.free_last.ensures.same)
     (deletion_refused p c.self.invariant x.0 (drop 1 p.waiting) first c.make_room.new.self.room c.delete.new.self usable c.in_err-delete.field-0.0 why))
@@ -87,7 +90,7 @@ returns-clause-log g c =
     let did : DeletedEntry (record i.log { room = c.make_room.new.self.room }) c.delete.new.self x.0.lits x.0.number =
     subst (λ k. DeletedEntry k c.delete.new.self x.0.lits x.0.number) c.make_room.ensures.same
     (subst (λ n. DeletedEntry c.make_room.new.self c.delete.new.self x.0.lits n) number
-    (subst (λ ls. DeletedEntry c.make_room.new.self c.delete.new.self ls c.first_head-number.result.number) (c.from_vec.ensures ∙ lits) c.in_ok-delete.ensures)) in
+    (subst (λ (ls : List Literal). DeletedEntry c.make_room.new.self c.delete.new.self ls c.first_head-number.result.number) (c.as_slice.ensures.value ∙ lits) c.in_ok-delete.ensures)) in
     subst (λ s. KeepsLog s (state_of (record p { start = c.delete_first.new.self.start; held = c.delete_first.new.self.held; waiting = c.delete_first.new.self.waiting; log = c.delete.new.self }))) (state_is c.self.view_is)
     (subst (λ (w : List Holding × List Holding × List Holding). KeepsLog (state_of p) (state_of (record p { start = w.0; held = w.1; waiting = w.2; log = c.delete.new.self }))) (λ j. (sym begun j, sym held j, sym waits j))
     (deletion_keeps p c.self.invariant x.0 (drop 1 p.waiting) first c.make_room.new.self.room c.delete.new.self usable did))

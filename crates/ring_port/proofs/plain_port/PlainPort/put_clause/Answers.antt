@@ -1,7 +1,7 @@
 use Rattle.std.proofs.Common.{◌≡◌, ◌≢◌, List, sym, ap, subst, ◌∙◌, true, ◌∷◌, [], ◌++◌, ◌-◌, vec_len}
 use Rattle.std.specs.Vec.{vec_capacity}
 use Rattle.std.specs.List.{All}
-use Rattle.sat_words.specs.declared.line.Line.TheVariants.{Add as AddLine}
+use Rattle.drat_text.specs.LineOut.{added_line}
 use Rattle.rup_model.specs.Rup.{rup}
 use Rattle.ring_port.specs.PortState.{Holding, IsPort, IsKept, known}
 use Rattle.ring_port.specs.Port.{is_usable, holding_of, IsClause, KeepsHeld, AddedClause}
@@ -98,9 +98,9 @@ returns-in_err-number-clause-log g c =
     let usable : is_usable i.log.refused ≡ true = subst (λ s. is_usable s.refused ≡ true) (sym (state_is c.self.view_is)) c.requires.usable in
     let clause = subst (λ s. IsClause s.vars c.args.lits.now) (sym (state_is c.self.view_is)) c.requires.clause in
     let follows : rup (known (state_of p)) c.args.lits.now ≡ true = subst (λ s. rup (known s) c.args.lits.now ≡ true) (sym (state_is c.self.view_is)) c.requires.rup in
-    let why : NotPut (record i.log { room = c.make_room-2.new.self.room }) c.add.new.self (AddLine c.args.lits.now) c.in_err-number.field-0.0 =
-    subst (λ k. NotPut k c.add.new.self (AddLine c.args.lits.now) c.in_err-number.field-0.0) c.make_room-2.ensures.same
-    (subst (λ ls. NotPut c.make_room-2.new.self c.add.new.self (AddLine ls) c.in_err-number.field-0.0) c.in-Ok.ensures c.in_err-number.ensures) in
+    let why : NotPut (record i.log { room = c.make_room-2.new.self.room }) c.add.new.self (added_line i.log.output c.args.lits.now []) c.in_err-number.field-0.0 =
+    subst (λ k. NotPut k c.add.new.self (added_line k.output c.args.lits.now []) c.in_err-number.field-0.0) c.make_room-2.ensures.same
+    (subst (λ ls. NotPut c.make_room-2.new.self c.add.new.self (added_line c.make_room-2.new.self.output ls []) c.in_err-number.field-0.0) c.in-Ok.ensures c.in_err-number.ensures) in
     subst (λ s. KeepsLog s (state_of (record p { start = c.make_room.new.self.start; held = c.make_room.new.self.held; waiting = c.make_room.new.self.waiting; log = c.add.new.self }))) (state_is c.self.view_is)
     (subst (λ (w : List Holding × List Holding × List Holding). KeepsLog (state_of p) (state_of (record p { start = w.0; held = w.1; waiting = w.2; log = c.add.new.self }))) (λ j. (sym c.make_room.ensures.start j, sym c.make_room.ensures.held j, sym c.make_room.ensures.waiting j))
     (refused_keeps p c.make_room-2.new.self.room c.add.new.self c.args.lits.now c.in_err-number.field-0.0 usable clause.on follows why))

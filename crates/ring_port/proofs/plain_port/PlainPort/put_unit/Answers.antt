@@ -1,6 +1,6 @@
 use Rattle.std.proofs.Common.{◌≡◌, sym, ap, subst, ◌∙◌, true, ◌∷◌, [], ◌++◌, ◌-◌, vec_len}
 use Rattle.std.specs.Vec.{vec_capacity}
-use Rattle.sat_words.specs.declared.line.Line.TheVariants.{Add as AddLine}
+use Rattle.drat_text.specs.LineOut.{added_line}
 use Rattle.rup_model.specs.Rup.{rup}
 use Rattle.ring_port.proofs.LogSteps.{one_All}
 use Rattle.ring_port.specs.PortState.{IsPort, IsOn, known}
@@ -51,9 +51,9 @@ returns-in_err-add-clause-log g c =
     let usable : is_usable i.log.refused ≡ true = subst (λ s. is_usable s.refused ≡ true) (sym (state_is c.self.view_is)) c.requires.usable in
     let on : IsOn i.vars c.args.lit = subst (λ s. IsOn s.vars c.args.lit) (sym (state_is c.self.view_is)) c.requires.on in
     let follows : rup (known (state_of p)) (c.args.lit ∷ []) ≡ true = subst (λ s. rup (known s) (c.args.lit ∷ []) ≡ true) (sym (state_is c.self.view_is)) c.requires.rup in
-    let why : NotPut (record i.log { room = c.make_room.new.self.room }) c.add.new.self (AddLine (c.args.lit ∷ [])) c.in_err-add.field-0.0 =
-    subst (λ k. NotPut k c.add.new.self (AddLine (c.args.lit ∷ [])) c.in_err-add.field-0.0) c.make_room.ensures.same
-    (subst (λ ls. NotPut c.make_room.new.self c.add.new.self (AddLine ls) c.in_err-add.field-0.0) c.in-Ok.ensures c.in_err-add.ensures) in
+    let why : NotPut (record i.log { room = c.make_room.new.self.room }) c.add.new.self (added_line i.log.output (c.args.lit ∷ []) []) c.in_err-add.field-0.0 =
+    subst (λ k. NotPut k c.add.new.self (added_line k.output (c.args.lit ∷ []) []) c.in_err-add.field-0.0) c.make_room.ensures.same
+    (subst (λ ls. NotPut c.make_room.new.self c.add.new.self (added_line c.make_room.new.self.output ls []) c.in_err-add.field-0.0) c.in-Ok.ensures c.in_err-add.ensures) in
     subst (λ s. KeepsLog s (state_of (record p { written = c.reserve.new.self.items; log = c.add.new.self }))) (state_is c.self.view_is)
     (subst (λ ls. KeepsLog (state_of p) (state_of (record p { written = ls; log = c.add.new.self }))) (sym c.reserve.ensures.items)
     (refused_keeps p c.make_room.new.self.room c.add.new.self (c.args.lit ∷ []) c.in_err-add.field-0.0 usable (one_All (IsOn i.vars) c.args.lit on) follows why))

@@ -23,5 +23,6 @@ returns-clause-log g c =
     let w : WorkState = record { vars = i.vars; unheld = i.unheld; clauses = i.clauses.clauses; units = i.units.units; stack = i.stack; ended = i.ended; output = g.L.LineOut.told i.output } in
     record {
       vars = ap (λ (s : WorkState). s.vars) c.self.view_is;
+      format = ap (λ (s : WorkState). s.output.format) c.self.view_is;
       stands = λ o mine h. stands_pushed o mine w (subst (Stands o mine) (sym c.self.view_is) h) c.push.new.self;
     }

@@ -1,21 +1,24 @@
-use Rattle.std.proofs.Common.{◌≡◌, ◌+◌, ap, sym, ◌∙◌, subst, Contains}
-use Rattle.sat_words.specs.declared.line.Line.TheVariants.{Del as DelLine}
+use Rattle.std.proofs.Common.{◌≡◌, ◌+◌, ap, sym, ◌∙◌, subst, List, Contains}
+use Rattle.sat_words.specs.Literal.{Literal}
 use Rattle.drat_text.specs.LineState.{LineState}
-use Rattle.drat_text.specs.LineOut.{PutLine}
+use Rattle.drat_text.specs.LineOut.{PutLine, deleted_line}
 use Rattle.simp_base.specs.WorkState.{WorkState}
 use Rattle.simp_base.specs.Calls.{Deleted}
-use Rattle.simp_base.proofs.Keeping.{work_deleted, deleted_by, put_del}
+use Rattle.simp_base.proofs.Keeping.{work_deleted, deleted_by, kept_not_put_at}
 use Rattle.simp_base.proofs.work.Work.take_clause.Goals as goal
+
+pub unreachable-requires : goal.unreachable-requires
+unreachable-requires g c = c.in_default.ensures.none c.requires.alive.0 (subst (λ (w : WorkState). Contains w.clauses (c.args.number, c.requires.alive.0)) (sym c.self.view_is) c.requires.alive.1)
 
 pub invariant_of-self : goal.invariant_of-self
 invariant_of-self g c =
     let i = c.self.inside in
     let w : WorkState = record { vars = i.vars; unheld = i.unheld; clauses = i.clauses.clauses; units = i.units.units; stack = i.stack; ended = i.ended; output = g.L.LineOut.told i.output } in
-    let line = c.in_ok-line.ensures.line in
-    let b = g.L.LineOut.told c.put.new.self in
-    let put : PutLine w.output b (DelLine line.0) 0 = put_del w.output b c.in_ok-line.line c.in-Ok.field-0 line.0 line.2 c.in-Ok.ensures.put in
-    let last : b.last ≡ w.output.last = ap (λ (s : LineState). s.last) put.state in (
-      work_deleted w c.self.invariant.0 line.0 b put c.remove.new.self.clauses c.remove.ensures.clauses.place c.remove.ensures.clauses.removed,
+    let b = g.L.LineOut.told c.del.new.self in
+    let put = c.in-Ok.ensures.put in
+    let last : b.last ≡ w.output.last = ap (λ (s : LineState). s.last) put.state in
+    let alive : Contains w.clauses (c.args.number, c.requires.alive.0) = subst (λ (s : WorkState). Contains s.clauses (c.args.number, c.requires.alive.0)) (sym c.self.view_is) c.requires.alive.1 in (
+      work_deleted w c.self.invariant.0 c.args.number c.requires.alive.0 c.lits.result.now b alive c.requires.alive.2 put c.remove.new.self.clauses c.remove.ensures.clauses,
       c.remove.ensures.next ∙ c.self.invariant.1 ∙ ap (λ n. n + 1) (sym last),
       c.remove.ensures.codes ∙ c.self.invariant.2,
       c.self.invariant.3,
@@ -29,8 +32,24 @@ pub returns-in-Ok-clause-deleted : goal.returns-in-Ok-clause-deleted
 returns-in-Ok-clause-deleted g c =
     let i = c.self.inside in
     let w : WorkState = record { vars = i.vars; unheld = i.unheld; clauses = i.clauses.clauses; units = i.units.units; stack = i.stack; ended = i.ended; output = g.L.LineOut.told i.output } in
-    let line = c.in_ok-line.ensures.line in
-    let alive : Contains w.clauses (c.args.number, line.0) = subst (λ (s : WorkState). Contains s.clauses (c.args.number, line.0)) (sym c.self.view_is) line.1 in
-    let b = g.L.LineOut.told c.put.new.self in
+    let b = g.L.LineOut.told c.del.new.self in
+    let clause = c.in-Some.clause.now in
+    let put : PutLine w.output b (deleted_line w.output c.args.number clause) = subst (λ (x : List Literal). PutLine w.output b (deleted_line w.output c.args.number x)) c.lits.ensures.value c.in-Ok.ensures.put in
     subst (λ s. Deleted s (record w { clauses = c.remove.new.self.clauses; output = b }) c.args.number) c.self.view_is
-    (deleted_by w c.self.invariant.0 c.args.number line.0 alive c.remove.new.self.clauses c.remove.ensures.clauses b (put_del w.output b c.in_ok-line.line c.in-Ok.field-0 line.0 line.2 c.in-Ok.ensures.put))
+    (deleted_by w c.self.invariant.0 c.args.number clause c.in-Some.ensures.some c.remove.new.self.clauses c.remove.ensures.clauses b put)
+
+pub invariant_of-self-in-Err : goal.invariant_of-self-in-Err
+invariant_of-self-in-Err g c =
+    let i = c.self.inside in
+    let w : WorkState = record { vars = i.vars; unheld = i.unheld; clauses = i.clauses.clauses; units = i.units.units; stack = i.stack; ended = i.ended; output = g.L.LineOut.told i.output } in
+    let b = g.L.LineOut.told c.del.new.self in
+    let kept = kept_not_put_at w b (deleted_line w.output c.args.number c.lits.result.now) c.in-Err.stop c.self.invariant.0 c.in-Err.ensures.put in (
+      kept.0,
+      c.self.invariant.1 ∙ ap (λ n. n + 1) (sym kept.1),
+      c.self.invariant.2,
+      c.self.invariant.3,
+      c.self.invariant.4 ∙ sym kept.2,
+    )
+
+pub returns-in-Err-clause-work : goal.returns-in-Err-clause-work
+returns-in-Err-clause-work g c = (invariant_of-self-in-Err g c).0

@@ -2,11 +2,12 @@
 
 Seeded random formulas of up to 16 variables, chains of equivalences, gates, colourings, constraints that at most one literal is true,
 pigeonhole formulas and formulas with the empty clause go through the program with `--proof`, each simplified and with `--no-simplify`,
-with 1, 2, 4, 8 or 16 rings, few words for clauses or many, half of the runs with `--check`, half with a seed, half with `--binary`, half
-with `--add` and some with a small limit of lemmas, most formulas in odd spellings, on standard input or as a file. Its answer is compared with a truth table, its
-`v` lines with the clauses and the format, and every line of its proof, as text or in binary, with the definition of DRAT. Before
-that, a damaged proof and a wrong model are tried, which must be caught. Real files that fail, refused words, refused inputs and a table with too few words bring
-the program to each status but 9, and each time the folder that it runs in must have no file but those that were to be there.
+with 1, 2, 4, 8 or 16 rings, few words for clauses or many, half of the runs with `--check`, half with a seed, a third each with
+`--binary` and `--lrat`, some with `--add` and some with a small limit of lemmas, most formulas in odd spellings, on standard input or
+as a file. Its answer is compared with a truth table, its `v` lines with the clauses and the format, and every line of its proof with the
+definition of DRAT, or by following its hints (proofs.py). Before that, damaged proofs and a wrong model are tried, which must be caught.
+Real files that fail, refused words, refused inputs and a table with too few words bring the program to each status but 9, and each time
+the folder that it runs in must have no file but those that were to be there.
 Nothing here shares code with the program.
 """
 
@@ -18,17 +19,15 @@ import sys
 import tempfile
 import time
 
+sys.dont_write_bytecode = True
+from proofs import FORMATS, Wrong, check_proof, lines_of
+
 SEED = 20261126
 RANDOM_FORMULAS = 1000
 STRUCTURED_FORMULAS = 20
 MOST_VARIABLES = 16
 SECONDS = 240
 ROOM = re.compile(r"gimsatul: no room: need ([0-9]+), largest hole ([0-9]+)\n")
-LINE = re.compile(r"(d )?((?:-?[1-9][0-9]* )*)0")
-
-
-class Wrong(Exception):
-    """The program said something that does not hold."""
 
 
 def pigeons(holes):
@@ -158,109 +157,6 @@ def is_satisfiable(variables, clauses):
     return left != 0
 
 
-def conflicts(clauses, assumed):
-    """Whether unit propagation from the assumed literals makes a clause false."""
-    true = set(assumed)
-    if any(-literal in true for literal in true):
-        return True
-    while True:
-        changed = False
-        for clause in clauses:
-            if any(literal in true for literal in clause):
-                continue
-            rest = [literal for literal in clause if -literal not in true]
-            if not rest:
-                return True
-            if len(rest) == 1:
-                true.add(rest[0])
-                changed = True
-        if not changed:
-            return False
-
-
-def is_rup(clauses, literals):
-    return conflicts(clauses, [-literal for literal in literals])
-
-
-def is_rat(clauses, literals):
-    """On the first literal."""
-    if not literals:
-        return False
-    pivot = literals[0]
-    return all(
-        is_rup(clauses, literals + [literal for literal in clause if literal != -pivot])
-        for clause in clauses
-        if -pivot in clause
-    )
-
-
-def text_lines(proof):
-    """The lines of a textual proof: whether each deletes, and its literals."""
-    text = proof.decode("ascii")
-    if text and not text.endswith("\n"):
-        raise Wrong("the proof's last line has no newline")
-    lines = []
-    for number, line in enumerate(text.splitlines(), 1):
-        parts = LINE.fullmatch(line)
-        if parts is None:
-            raise Wrong("line %d of the proof is not in the format: %r" % (number, line))
-        lines.append((bool(parts.group(1)), [int(word) for word in parts.group(2).split()]))
-    return lines
-
-
-def binary_number(proof, place):
-    """The number at a place in binary, in groups of seven bits, and the place behind it."""
-    number = shift = 0
-    while place < len(proof):
-        byte = proof[place]
-        place += 1
-        number |= (byte & 127) << shift
-        shift += 7
-        if byte < 128:
-            if byte == 0 and shift > 7:
-                raise Wrong("a number of the proof has a group too many")
-            return number, place
-    raise Wrong("the proof ends inside a number")
-
-
-def binary_lines(proof):
-    """The lines of a proof in binary: whether each deletes, and its literals."""
-    lines, place = [], 0
-    while place < len(proof):
-        mark = proof[place : place + 1]
-        if mark not in (b"a", b"d"):
-            raise Wrong("line %d of the proof begins with %r" % (len(lines) + 1, mark))
-        literals = []
-        number, place = binary_number(proof, place + 1)
-        while number != 0:
-            if number == 1:
-                raise Wrong("line %d of the proof has a literal of no variable" % (len(lines) + 1))
-            literals.append(-(number // 2) if number % 2 else number // 2)
-            number, place = binary_number(proof, place)
-        lines.append((mark == b"d", literals))
-    return lines
-
-
-def check_proof(clauses, proof, binary=False):
-    """Whether each line is valid where it stands; answers whether the empty clause was added."""
-    alive = [frozenset(clause) for clause in clauses]
-    ended = False
-    for number, (deletes, literals) in enumerate(binary_lines(proof) if binary else text_lines(proof), 1):
-        if ended:
-            raise Wrong("line %d of the proof stands behind the empty clause" % number)
-        if deletes:
-            clause = frozenset(literals)
-            if clause not in alive or len(clause) == 1:
-                raise Wrong("line %d of the proof deletes no clause of two literals or more" % number)
-            alive.remove(clause)
-            continue
-        if not is_rup(alive, literals) and not is_rat(alive, literals):
-            raise Wrong("line %d of the proof does not follow" % number)
-        alive.append(frozenset(literals))
-        ended = not literals
-    return ended
-
-
 def propagated(clauses):
     """The literals that unit propagation alone makes true."""
     true = set()
@@ -274,13 +170,13 @@ def propagated(clauses):
             return true
 
 
-def lemmas_shown(clauses, proof, binary, rings):
+def lemmas_shown(clauses, proof, form, rings):
     """The fewest and the most lemmas of rings that never reduced, in a proof that is theirs alone. A clause of two literals or more is
     a lemma, and so is a unit that propagation had not made true. Any other unit of one ring came by propagation; of several rings it may
     be a lemma of one that had not seen the others' clauses."""
     alive = [frozenset(clause) for clause in clauses]
     fewest = most = 0
-    for deletes, literals in binary_lines(proof) if binary else text_lines(proof):
+    for deletes, literals in lines_of(clauses, proof, form):
         if deletes:
             alive.remove(frozenset(literals))
             continue
@@ -325,12 +221,12 @@ def check_no_room(out, err):
         raise Wrong("status 8 with %r on standard error and %r printed" % (err, out))
 
 
-def check_answer(variables, clauses, status, out, err, proof, satisfiable, checked=False, limit=None, narrow=False, binary=False, rings=None):
+def check_answer(variables, clauses, status, out, err, proof, satisfiable, checked=False, limit=None, narrow=False, form="text", rings=None):
     """`limit` is how many lemmas the rings may learn together, if that was asked for, `narrow` says that there are few words for clauses,
-    `binary` that the proof is in binary, `rings` how many rings wrote it if nothing else did."""
+    `form` is the format of the proof, `rings` how many rings wrote it if nothing else did."""
     if status == 8 and narrow:
         check_no_room(out, err)
-        check_proof(clauses, proof, binary)
+        check_proof(clauses, proof, form)
         return
     lines = out.split("\n")
     if lines[-1] != "":
@@ -342,7 +238,7 @@ def check_answer(variables, clauses, status, out, err, proof, satisfiable, check
         lines = lines[1:]
     if err:
         raise Wrong("something on standard error: %r" % err)
-    ended = check_proof(clauses, proof, binary)
+    ended = check_proof(clauses, proof, form)
     if status == 10:
         if lines[:1] != ["s SATISFIABLE"] or ended:
             raise Wrong("status 10 with another answer or with a refutation")
@@ -358,7 +254,7 @@ def check_answer(variables, clauses, status, out, err, proof, satisfiable, check
         if lines != ["s UNKNOWN"] or ended:
             raise Wrong("status 0 with another answer or with a refutation")
         if rings is not None:
-            fewest, most = lemmas_shown(clauses, proof, binary, rings)
+            fewest, most = lemmas_shown(clauses, proof, form, rings)
             if not fewest <= limit <= most:
                 raise Wrong("status 0 after %d to %d lemmas, and the limit is %d" % (fewest, most, limit))
     else:
@@ -367,11 +263,13 @@ def check_answer(variables, clauses, status, out, err, proof, satisfiable, check
 
 class Options:
     """How the program is to decide: by how many rings, with how many words for clauses, slots for each two rings and class, and
-    lemmas for all rings and in a round, from which seed, whether it simplifies, may add variables and checks its log, and whether the
-    proof is in binary. None leaves an option out. Short rounds may never end, so there is a limit of lemmas with them."""
+    lemmas for all rings and in a round, from which seed, whether it simplifies, may add variables and checks its log, and in which
+    format the proof is. None leaves an option out. Short rounds may never end, so there is a limit of lemmas with them; with hints no
+    variable may be added."""
 
     def __init__(self, rng, simplified):
-        self.simplified, self.checked, self.binary, self.adds = simplified, rng.random() < 0.5, rng.random() < 0.5, rng.random() < 0.5
+        self.simplified, self.checked, self.form = simplified, rng.random() < 0.5, rng.choice(FORMATS)
+        self.adds = rng.random() < 0.5 and self.form != "lrat"
         limit, every = rng.choice([(None, None)] * 6 + [(1, None), (10, None)] * 2 + [(3, 1), (10, 3), (100, 5), (200, 50)])
         self.numbers = {
             "--threads": rng.choice([1, 2, 4, 8, 16]),
@@ -384,7 +282,8 @@ class Options:
 
     def words(self):
         named = [word for name, number in self.numbers.items() if number is not None for word in (name, str(number))]
-        flags = {"--check": self.checked, "--binary": self.binary, "--add": self.adds, "--no-simplify": not self.simplified}
+        flags = {"--check": self.checked, "--add": self.adds, "--no-simplify": not self.simplified}
+        flags.update({"--" + form: self.form == form for form in FORMATS[1:]})
         return named + [flag for flag, is_used in flags.items() if is_used]
 
     def rings_alone(self, clauses):
@@ -393,10 +292,9 @@ class Options:
         return None if writes else self.numbers["--threads"]
 
 
-def has_more_variables(variables, proof, binary):
+def has_more_variables(variables, clauses, proof, form):
     """Whether a line of the proof names a variable that the formula doesn't have."""
-    lines = binary_lines(proof) if binary else text_lines(proof)
-    return any(abs(literal) > variables for _, literals in lines for literal in literals)
+    return any(abs(literal) > variables for _, literals in lines_of(clauses, proof, form) for literal in literals)
 
 
 def run(program, folder, variables, clauses, satisfiable, text, from_file, options):
@@ -428,10 +326,10 @@ def run(program, folder, variables, clauses, satisfiable, text, from_file, optio
         options.checked,
         options.numbers["--conflicts"],
         options.numbers["--words"] is not None,
-        options.binary,
+        options.form,
         options.rings_alone(clauses),
     )
-    more = has_more_variables(variables, proof, options.binary)
+    more = has_more_variables(variables, clauses, proof, options.form)
     if more and not (options.adds and options.simplified):
         raise Wrong("a variable is added, and that was not asked for")
     return more
@@ -475,6 +373,9 @@ def statuses():
         "--check --check",
         "--binary --binary",
         "--add --add",
+        "--lrat --lrat",
+        "--lrat --binary",
+        "--lrat --add",
         "--seed -1",
         "--seed 9223372036854775808",
     ]:
@@ -522,6 +423,9 @@ def statuses():
     yield Case(20, ["--add", "--check", "input"], MODEL, pigeonhole, stdout=accepted + "s UNSATISFIABLE\n", here=["input"])
     yield Case(20, ["--binary", "--proof", "proof"], REFUTED, stdout="s UNSATISFIABLE\n", here=["proof"])
     yield Case(7, ["--binary", "--proof", FULL], REFUTED, stderr="gimsatul: proof fault\n")
+    yield Case(20, ["--lrat", "--proof", "proof"], REFUTED, stdout="s UNSATISFIABLE\n", here=["proof"])
+    yield Case(20, ["--lrat", "--check", "--proof", "proof"], pigeonhole, stdout=accepted + "s UNSATISFIABLE\n", here=["proof"])
+    yield Case(7, ["--lrat", "--proof", FULL], REFUTED, stderr="gimsatul: proof fault\n")
 
 
 def try_status(program, case):
@@ -569,7 +473,7 @@ def check_left(case, folder):
             clauses.append([])
         else:
             clauses[-1].append(number)
-    check_proof(clauses[:-1], proof, "--binary" in case.words)
+    check_proof(clauses[:-1], proof, next((form for form in FORMATS if "--" + form in case.words), "text"))
 
 
 def must_catch(what, check):
@@ -589,11 +493,24 @@ def try_itself():
     must_catch("a deletion of no clause", lambda: check_proof([[1, 2]], b"d 1 3 0\n"))
     must_catch("a line cut short", lambda: check_proof(clauses, b"1 0\n0"))
     must_catch("a proof without its end", lambda: check_answer(2, clauses, 20, "s UNSATISFIABLE\n", "", b"1 0\n", False))
-    check_answer(2, clauses, 20, "s UNSATISFIABLE\n", "", b"a\2\0d\5\2\0a\0", False, binary=True)
-    must_catch("a sign turned in binary", lambda: check_proof([[1, 2], [1, -2]], b"a\3\0", True))
-    must_catch("a text in place of a binary proof", lambda: check_proof(clauses, b"1 0\n0\n", True))
-    must_catch("a binary line cut short", lambda: check_proof(clauses, b"a\2\0a", True))
-    must_catch("a number in two groups for one", lambda: check_proof(clauses, b"a\x82\0\0", True))
+    check_answer(2, clauses, 20, "s UNSATISFIABLE\n", "", b"a\2\0d\5\2\0a\0", False, form="binary")
+    must_catch("a sign turned in binary", lambda: check_proof([[1, 2], [1, -2]], b"a\3\0", "binary"))
+    must_catch("a text in place of a binary proof", lambda: check_proof(clauses, b"1 0\n0\n", "binary"))
+    must_catch("a binary line cut short", lambda: check_proof(clauses, b"a\2\0a", "binary"))
+    must_catch("a number in two groups for one", lambda: check_proof(clauses, b"a\x82\0\0", "binary"))
+    hinted = b"5 1 0 1 2 0\n5 d 1 0\n6 0 5 3 4 0\n"
+    check_answer(2, clauses, 20, "s UNSATISFIABLE\n", "", hinted, False, form="lrat")
+    for what, line in [
+        ("hints in reverse", b"6 0 4 5 3 0\n"),
+        ("a conflict that is not last", b"6 0 5 3 4 3 0\n"),
+        ("a hint left out", b"6 0 3 4 0\n"),
+        ("a hint of a deleted clause", b"6 0 5 1 3 4 0\n"),
+        ("a number one too high", b"7 0 5 3 4 0\n"),
+        ("a deletion of a number that is not alive", b"5 d 1 0\n6 0 5 3 4 0\n"),
+        ("a deletion led by its own number", b"3 d 3 0\n"),
+        ("a literal that is true and is forced again", b"6 0 5 5 3 4 0\n"),
+    ]:
+        must_catch(what, lambda: check_proof(clauses, b"5 1 0 1 2 0\n5 d 1 0\n" + line, "lrat"))
     check_answer(2, clauses, 0, "s UNKNOWN\n", "", b"1 0\n", False, limit=1, rings=1)
     check_answer(2, clauses, 0, "s UNKNOWN\n", "", b"1 0\n2 0\n", False, limit=1, rings=1)
     check_answer(2, clauses, 0, "s UNKNOWN\n", "", b"1 0\n2 0\n", False, limit=2, rings=2)

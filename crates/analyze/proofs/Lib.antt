@@ -9,3 +9,11 @@ pub mod Refuting
 pub mod Parts
 pub mod Freshness
 pub mod ReasonSide
+pub mod Noting
+pub mod Sorting
+pub mod Causes
+pub mod Spreading
+pub mod Climbing
+pub mod Tracing
+pub mod Supporting
+pub mod Starting

@@ -32,7 +32,9 @@ use Rattle.analyze.specs.Lemma.{negated_at, IsMinimisedClause, IsFalseAbove, IsL
 use Rattle.analyze.proofs.Chains.{has-map, rup-Refuted}
 use Rattle.analyze.proofs.Marking.{listed_in_range, touched_few, member_push}
 use Rattle.analyze.proofs.LevelLemmas.{level_of_lit-at}
+use Rattle.analyze.specs.Tracing.{CanTraceClause}
 use Rattle.analyze.proofs.Refuting.{Refuted-walk}
+use Rattle.analyze.proofs.Supporting.{CanTraceClause-support}
 use Rattle.analyze.proofs.Removing.{removable_is, removable_or_not, found_needed, removable_sound, needed_stays}
 
 pub apart_In : (x : ℕ) (ys : List ℕ) (y : ℕ) → AllByRecursion (λ z. nat_eq x z ≡ false) ys → In y ys → nat_eq x y ≡ false
@@ -273,6 +275,40 @@ module _ (s : PortState) (t : TrailData) (c : List Literal) (u : ℕ) (ms : Mark
           let a = (kept_places_marked p.0 p.1).1 in
           let h = level_here p.0 (places_lt p.0 (inr p.1)) in
           omega arith
+
+  in_line : (p : ℕ) → In p (u ∷ kept_places) → has lemma_lits (negated_at t.steps p) ≡ true
+  unfolding lemma_lits
+  in_line p h = In_has lemma_lits (negated_at t.steps p) (In_map (negated_at t.steps) (u ∷ kept_places) p h)
+
+  line_lower : (p : ℕ) → marked ms.values p ≡ true → level_at t.steps p < clause_level t.steps c → (removed p ≡ true) ⊎ (has lemma_lits (opposite (lit_at t.steps p)) ≡ true)
+  unfolding removed
+  line_lower p y low = elim (removable_or_not (removability_at vs.values p)) as (λ _. (is_removable (removability_at vs.values p) ≡ true) ⊎ (has lemma_lits (opposite (lit_at t.steps p)) ≡ true)) [
+    | inl e ↦ inl e
+    | inr n ↦ inr (in_line p (inr (In_kept_places p y low n)))
+  ]
+
+  none_true : (p : ℕ) → p < length t.steps → has lemma_lits (lit_at t.steps p) ≡ false
+  unfolding lemma_lits
+  none_true p lt = false_from_ne_true _ (λ y.
+      let q = map_In (negated_at t.steps) (u ∷ kept_places) (lit_at t.steps p) (has_In lemma_lits (lit_at t.steps p) y) in
+      let e : q.0 ≡ p = shape.distinct q.0 p (places_lt q.0 q.1) lt (ap (λ (l : Literal). l.var) q.2) in
+      own_opposite (lit_at t.steps p) (sym (ap (negated_at t.steps) (sym e) ∙ q.2)))
+
+  -- what the walk marked or minimisation removed is a support of the lemma
+  CanTraceClause-walked : CanTraceClause (clause_at s) t.steps lemma_lits c
+  CanTraceClause-walked =
+      CanTraceClause-support (clause_at s) s.seen t (clause_level t.steps c) u c ms.values removed lemma_lits shape reasoned bad w k.within pos removed_rests (in_line u (inl refl)) line_lower none_true
+
+-- so hints can be found for the lemma
+pub CanTraceClause-from : (s : PortState) (t : TrailData) (m : ℕ) (c : List Literal) (u : ℕ) (ms : MarksData Bool) (vs : MarksData Removability)
+    → IsTrail t → IsReasoned (clause_at s) s.seen t.steps → Contains (known s) c → IsFalseClause t.steps c → m ≡ clause_level t.steps c → 1 ≤ m
+    → IsMarking t.steps t.vars m ms → IsWalked (clause_at s) t.steps m c ms.values u
+    → IsJudged (clause_at s) t.steps t.vars ms.values vs → ((p : ℕ) → marked ms.values p ≡ true → level_at t.steps p < m → is_known vs.values p ≡ true)
+    → CanTraceClause (clause_at s) t.steps (negated_at t.steps u ∷ map (negated_at t.steps) (kept_of t.steps m vs.values ms.touched)) c
+CanTraceClause-from s t m c u ms vs shape reasoned inG bad e pos k w j found =
+    subst (λ (n : ℕ). 1 ≤ n → IsMarking t.steps t.vars n ms → IsWalked (clause_at s) t.steps n c ms.values u → ((p : ℕ) → marked ms.values p ≡ true → level_at t.steps p < n → is_known vs.values p ≡ true)
+    → CanTraceClause (clause_at s) t.steps (negated_at t.steps u ∷ map (negated_at t.steps) (kept_of t.steps n vs.values ms.touched)) c) (sym e)
+    (λ p k w f. unfold lemma_lits in unfold kept_places in CanTraceClause-walked s t c u ms vs shape reasoned inG bad k w p j f) pos k w found
 
 -- what the walk marked and minimisation kept makes the lemma
 pub IsLemma-from : (s : PortState) (t : TrailData) (m : ℕ) (c : List Literal) (u : ℕ) (ms : MarksData Bool) (vs : MarksData Removability)

@@ -3,13 +3,15 @@ use Rattle.std.specs.Prelude.{◌≡◌, ◌≤◌, ◌+◌, ◌^◌, ℕ, false
 use Rattle.sat_words.specs.Literal.{Literal}
 use Rattle.analyze.specs.declared.analysis.Analysis.TheInside.{Inside}
 use Rattle.analyze.specs.declared.minimise.Removability.TheVariants.{Unknown}
+use Rattle.analyze.specs.declared.tracer.Note.TheVariants.{Free}
 use Rattle.analyze.specs.MarksData.{all_blank}
 
--- for how many variables, the literals of the last lemma, and the variables to bump after the last conflict
+-- for how many variables, the literals of the last lemma, the variables to bump after the last conflict, and the hints found last
 pub record AnalysisData : Type 0 where
   pub vars : ℕ
   pub lits : List Literal
   pub analyzed : List ℕ
+  pub hints : List ℕ
 
 -- one of the variables from 1 to the last
 pub record IsVariable (vars v : ℕ) : Type 0 where
@@ -26,3 +28,5 @@ pub record IsReady (a : Inside) : Type 0 where
   pub waiting_room : a.vars ≤ vec_capacity a.minimisation.waiting
   pub lits_room : a.vars + 1 ≤ vec_capacity a.lits
   pub analyzed_room : a.vars ≤ vec_capacity a.analyzed
+  pub tracing : a.tracer.table ≡ all_blank a.vars Free
+  pub hints_room : a.vars + 1 ≤ vec_capacity a.tracer.hints

@@ -9,3 +9,5 @@ pub mod Marks
 pub mod Lemma
 pub mod ReasonSide
 pub mod AnalysisData
+pub mod Tracing
+pub mod Noting

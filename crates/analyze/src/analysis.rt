@@ -1,11 +1,14 @@
-//! The calls of conflict analysis: the walk, minimisation, the lemma and the variables to bump. The buffers are kept from
+//! The calls of conflict analysis: the walk, minimisation, the lemma, the variables to bump and the hints. The buffers are kept from
 //! conflict to conflict. Each call must take its marks away.
-ghost use Rattle.std.specs.Prelude.{◌≡◌, ◌<◌, ◌≤◌, ◌^◌, [], All, IfOk, IsSome};
+ghost use Rattle.std.specs.Prelude.{◌≡◌, ◌<◌, ◌≤◌, ◌^◌, [], true, All, IfOk, IsSome};
 ghost use Rattle.analyze.specs.AnalysisData.{IsVariable};
 ghost use Rattle.ring_port.specs.PortState.{held_at, lits_at};
-ghost use Rattle.ring_trail.specs.TrailData.{IsFalseClause};
+ghost use Rattle.ring_trail.specs.TrailData.{IsFalseClause, IsFalseOn};
 ghost use Rattle.ring_trail.specs.Reasoned.{IsReasoned};
 ghost use Rattle.ring_port.specs.PortState.{clause_at};
+ghost use Rattle.ring_port.specs.Port.{AreHints};
+ghost use Rattle.sat_words.specs.Clause.{has};
+ghost use Rattle.analyze.specs.Tracing.{CanTraceClause, CanTraceLiteral};
 ghost use Rattle.analyze.specs.Levels.{clause_level};
 ghost use Rattle.analyze.specs.Lemma.{IsConclusion};
 ghost use Rattle.analyze.specs.ReasonSide.{AreAnalyzed};
@@ -14,6 +17,7 @@ use crate::lemma::{backjump_level, glue_of, write_analyzed, write_lemma};
 use crate::marks::Marks;
 use crate::minimise::{Minimisation, Removability, judge_all, write_kept_places};
 use crate::reason_side::mark_reason_side;
+use crate::tracer::{Note, Tracer, trace_clause, trace_literal, trace_unit};
 use crate::walk::{find_first_uip, level_of_clause};
 use ring_port::Port;
 use ring_trail::Trail;
@@ -47,6 +51,7 @@ pub struct Analysis {
     minimisation: Minimisation,
     lits: Vec<Lit>,
     analyzed: Vec<u32>,
+    tracer: Tracer,
 }
 
 impl Model for Analysis {
@@ -56,7 +61,7 @@ impl Model for Analysis {
 
     ghost use Rattle.analyze.specs.AnalysisData.{IsReady};
 
-    ghost view = { λ a. record { vars = a.vars; lits = a.lits.items; analyzed = a.analyzed.items } };
+    ghost view = { λ a. record { vars = a.vars; lits = a.lits.items; analyzed = a.analyzed.items; hints = a.tracer.hints.items } };
 
     ghost invariant = { IsReady };
 }
@@ -65,7 +70,7 @@ impl Analysis {
     /// For trails over this many variables. It has no lemma yet.
     pub fn new(alloc: Global, vars: u32) -> Result<Analysis, AllocError>
         requires { vars ≤ 2 ^ 30 }
-        ensures { IfOk result (λ a. a ≡ record { vars = vars; lits = []; analyzed = [] }) }
+        ensures { IfOk result (λ a. a ≡ record { vars = vars; lits = []; analyzed = []; hints = [] }) }
     {
         let room = vars as usize;
         Ok(Analysis {
@@ -79,6 +84,10 @@ impl Analysis {
             },
             lits: Vec::with_capacity(alloc, room + 1)?,
             analyzed: Vec::with_capacity(alloc, room)?,
+            tracer: Tracer {
+                table: Marks::new(alloc, room, Note::Free)?,
+                hints: Vec::with_capacity(alloc, room + 1)?,
+            },
         })
     }
 
@@ -97,10 +106,56 @@ impl Analysis {
         self.analyzed.as_slice()
     }
 
+    /// The hints found last, in the order of the trail, the clause that is false last. Without hints in the log there are none.
+    pub fn hints(&self) -> &[u64]
+        ensures { result.now ≡ self.now.hints }
+    {
+        self.tracer.hints.as_slice()
+    }
+
+    /// Finds hints for a line that follows from a clause that the negations of its literals and the trail make false.
+    pub fn trace_clause<P: Port>(&mut self, port: &mut P, trail: &Trail, line: &[Lit], c: Cref)
+        requires vars { trail.now.vars ≡ self.old.vars }
+        requires held { IsSome (held_at (P.state port.old) c.address) }
+        requires reasoned { IsReasoned (clause_at (P.state port.old)) (P.state port.old).seen trail.now.steps }
+        requires can { CanTraceClause (clause_at (P.state port.old)) trail.now.steps line.now (lits_at (P.state port.old) c.address) }
+        ensures same { P.state port.new ≡ P.state port.old }
+        ensures kept { self.new ≡ record self.old { hints = self.new.hints } }
+        ensures hints { AreHints (P.state port.old) line.now self.new.hints }
+    {
+        trace_clause(port, trail, line, c, &mut self.tracer);
+    }
+
+    /// Finds hints for a line with the literal at this place: the line's negation makes it false, though the trail makes it true.
+    pub fn trace_literal<P: Port>(&mut self, port: &mut P, trail: &Trail, line: &[Lit], place: u32)
+        requires vars { trail.now.vars ≡ self.old.vars }
+        requires reasoned { IsReasoned (clause_at (P.state port.old)) (P.state port.old).seen trail.now.steps }
+        requires can { CanTraceLiteral (clause_at (P.state port.old)) trail.now.steps line.now place }
+        ensures same { P.state port.new ≡ P.state port.old }
+        ensures kept { self.new ≡ record self.old { hints = self.new.hints } }
+        ensures hints { AreHints (P.state port.old) line.now self.new.hints }
+    {
+        trace_literal(port, trail, line, place, &mut self.tracer);
+    }
+
+    /// Finds hints for the empty clause if a unit that is seen is false. The trail is at level 0.
+    pub fn trace_unit<P: Port>(&mut self, port: &mut P, trail: &Trail, unit: Lit)
+        requires vars { trail.now.vars ≡ self.old.vars }
+        requires level { trail.now.level ≡ 0 }
+        requires reasoned { IsReasoned (clause_at (P.state port.old)) (P.state port.old).seen trail.now.steps }
+        requires seen { has (P.state port.old).seen unit ≡ true }
+        requires opposed { IsFalseOn trail.now.steps unit }
+        ensures same { P.state port.new ≡ P.state port.old }
+        ensures kept { self.new ≡ record self.old { hints = self.new.hints } }
+        ensures hints { AreHints (P.state port.old) [] self.new.hints }
+    {
+        trace_unit(port, trail, unit, &mut self.tracer);
+    }
+
     /// Analyses a conflict, which is a clause that is false on the trail. The walk starts at the clause's level, which is the
     /// greatest of its literals'. Minimisation removes a literal of a lower level if the others of its reason are at level 0,
     /// left by the walk, or removable too. After a lemma `lits` has its literals and `analyzed` the variables to bump. After
-    /// `Empty` both have nothing.
+    /// `Empty` both have nothing. The hints are those of the lemma, or of the empty clause.
     pub fn analyze<P: Port>(&mut self, port: &mut P, trail: &Trail, conflict: Cref) -> Conclusion
         requires vars { trail.now.vars ≡ self.old.vars }
         requires held { IsSome (held_at (P.state port.old) conflict.address) }
@@ -113,12 +168,14 @@ impl Analysis {
         ensures variables { All (IsVariable self.new.vars) self.new.analyzed }
         ensures analyzed { 0 < clause_level trail.now.steps (lits_at (P.state port.old) conflict.address)
             → AreAnalyzed (clause_at (P.state port.old)) trail.now.steps (lits_at (P.state port.old) conflict.address) self.new.lits self.new.analyzed }
+        ensures hints { AreHints (P.state port.old) self.new.lits self.new.hints }
         ensures none_analyzed { result ≡ Conclusion.Empty → self.new.analyzed ≡ [] }
     {
         let level = level_of_clause(port, trail, conflict);
         if level == 0 {
             self.lits.clear();
             self.analyzed.clear();
+            trace_clause(port, trail, &[], conflict, &mut self.tracer);
             return Conclusion::Empty;
         }
         let point = find_first_uip(port, trail, conflict, level, &mut self.marks);
@@ -143,6 +200,13 @@ impl Analysis {
         self.minimisation.table.reset();
         let kept_places = self.kept_places.as_slice();
         write_lemma(trail, point, kept_places, &mut self.lits);
+        trace_clause(
+            port,
+            trail,
+            self.lits.as_slice(),
+            conflict,
+            &mut self.tracer,
+        );
         let back = backjump_level(trail, kept_places);
         let glue = glue_of(trail, kept_places, &mut self.levels);
         Conclusion::Lemma { back, glue }

@@ -8,9 +8,10 @@
 //! 3. The lemma has the point's literal first, a level to backjump to and a glue (Audemard and Simon 2009).
 //! 4. The variables to bump are those of the walk and of the reasons of the lemma's literals (Liang, Ganesh, Poupart and
 //!    Czarnecki 2016).
+//! 5. If the log has hints, the tracer finds those of the lemma, and of other lines that follow from the trail.
 //!
-//! Of specs/, `Walk` defines the walk and its end, `Removable` what minimisation removes, `Lemma` what is learned and
-//! `ReasonSide` what is bumped.
+//! Of specs/, `Walk` defines the walk and its end, `Removable` what minimisation removes, `Lemma` what is learned,
+//! `ReasonSide` what is bumped and `Tracing` what hints rest on.
 #![tactic(auto)]
 
 mod analysis;
@@ -19,6 +20,7 @@ mod lemma;
 mod marks;
 mod minimise;
 mod reason_side;
+mod tracer;
 mod walk;
 
 pub use analysis::{Analysis, Conclusion};

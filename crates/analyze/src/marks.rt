@@ -2,6 +2,7 @@
 //! all places, and does so for each conflict. The list of marked places must name each place that isn't blank.
 ghost use Rattle.std.specs.Prelude.{◌≡◌, ◌<◌, ℕ, All, IfOk, false, nat_eq, length, replicate};
 ghost use Rattle.std.specs.List.{slice_index_or};
+ghost use Rattle.std.specs.List.Sorted.{IsPermutation, IsNonDecreasing};
 ghost use Rattle.std.specs.Set.{is_member};
 ghost use Rattle.analyze.specs.MarksData.{all_blank, with_mark};
 
@@ -74,6 +75,15 @@ impl<T: Copy> Marks<T> {
     {
         self.values[place as usize] = value;
         self.touched.push_reserved(place);
+    }
+
+    /// Puts the marked places into ascending order.
+    pub(crate) fn sort(&mut self)
+        ensures same { self.new ≡ record self.old { touched = self.new.touched } }
+        ensures order { IsPermutation self.old.touched self.new.touched }
+        ensures rising { IsNonDecreasing self.new.touched }
+    {
+        self.touched.sort_unstable();
     }
 
     /// Takes every mark away.

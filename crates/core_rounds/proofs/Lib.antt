@@ -2,3 +2,4 @@ pub mod Learned
 pub mod Journals
 pub mod OneRound
 pub mod AllRounds
+pub mod HintedRounds

@@ -40,7 +40,7 @@ module _ {rings depth limit : ℕ} {F : List (List Literal)} {before : List Entr
   pub sound : Sound (left_by x)
   sound = events_sound x.opening o.opens x.events o.enabled
 
-  same_opening : (left_by x).opening ≡ x.opening
+  pub same_opening : (left_by x).opening ≡ x.opening
   same_opening = run_opening x.events (opened x.opening)
 
   -- Its entries

@@ -5,6 +5,7 @@ use Rattle.sat_words.specs.Literal.{Literal}
 use Rattle.rup_model.specs.declared.journal.Entry.{Entry}
 use Rattle.rup_model.specs.Basics.{below}
 use Rattle.rup_model.specs.Journal.{ring_of, learned, IsFresh}
+use Rattle.rup_model.specs.NumberedLines.{IsHinted}
 use Rattle.rup_model.specs.Opening.{is_rulers, start_clauses}
 use Rattle.rup_model.specs.Windows.{begins_round, since_round, to_round, last_round, round_opening}
 
@@ -24,6 +25,10 @@ round_limit (Some every) most done = min every (most - done)
 -- the entry is the ruler's, begins a round, or is of one of so many rings
 abbrev pub IsOfRounds : ℕ → Entry → Type 0
 IsOfRounds rings e = (is_rulers e ≡ true) ⊎ (begins_round e ≡ true) ⊎ (ring_of e < rings)
+
+-- if the entry is the ruler's, the hints of what it adds show that it follows from the clauses that are alive before it
+abbrev pub IsHintedByRuler : List (List Literal) → List Entry → Entry → Type 0
+IsHintedByRuler F before e = is_rulers e ≡ true → IsHinted F before e
 
 -- a clause that is learned is fresh in its round
 abbrev pub IsFreshInRound : List (List Literal) → List Entry → Entry → Type 0

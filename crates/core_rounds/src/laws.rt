@@ -5,11 +5,12 @@ ghost use Rattle.sat_words.specs.Literal.{Literal};
 ghost use Rattle.rup_model.specs.declared.journal.Entry.{Entry};
 ghost use Rattle.rup_model.specs.Basics.{EachAfter};
 ghost use Rattle.rup_model.specs.Journal.{LogSound};
+ghost use Rattle.rup_model.specs.NumberedLines.{AreHinted};
 ghost use Rattle.rup_model.specs.Opening.{is_rulers, IsNew};
 ghost use Rattle.rup_model.specs.Windows.{begins_round, since_round, to_round, last_round, opening_by, round_opening, IsNewInRound, IsSpacedInRound};
 ghost use Rattle.share_core.specs.State.{opening_of};
 ghost use Rattle.core_rounds.specs.Rounds.{RoundRun, left_by, written_in, start_for, IsRound, IsSpent, AreRounds};
-ghost use Rattle.core_rounds.specs.InRounds.{learned_by, round_limit, IsOfRounds, IsFreshInRound, IsDueInRounds};
+ghost use Rattle.core_rounds.specs.InRounds.{learned_by, round_limit, IsOfRounds, IsHintedByRuler, IsFreshInRound, IsDueInRounds};
 
 use share_core::tickets_are_counted;
 
@@ -35,6 +36,12 @@ pub fn a_round_tells_its_opening()
 pub fn rounds_leave_a_sound_log()
     ensures { (rings depth : ℕ) (every : Option ℕ) (most : ℕ) (F : List (List Literal)) (xs : List RoundRun) (J : List Entry)
         → AreRounds rings depth every most F xs J → LogSound F J }
+{}
+
+/// If all rounds have hints, and those of the ruler's additions show that they follow, then the hints of each addition do.
+pub fn rounds_leave_a_hinted_log()
+    ensures { (rings depth : ℕ) (every : Option ℕ) (most : ℕ) (F : List (List Literal)) (xs : List RoundRun) (J : List Entry)
+        → AreRounds rings depth every most F xs J → All (λ x. x.opening.hinted ≡ true) xs → EachAfter (IsHintedByRuler F) [] J → AreHinted F J }
 {}
 
 /// Each entry is the ruler's, begins a round or is of one of the rings; as many begin one as there are rounds.

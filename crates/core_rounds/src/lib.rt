@@ -11,7 +11,7 @@ mod ruler_laws;
 
 pub use laws::{
     a_round_begins_when_due, a_round_tells_its_opening, entries_are_of_rounds,
-    rounds_come_to_an_end, rounds_learn_no_more_than_they_may, rounds_leave_a_sound_log,
-    what_is_learned_is_fresh_in_its_round,
+    rounds_come_to_an_end, rounds_learn_no_more_than_they_may, rounds_leave_a_hinted_log,
+    rounds_leave_a_sound_log, what_is_learned_is_fresh_in_its_round,
 };
 pub use ruler_laws::the_ruler_keeps_rounds;

@@ -168,15 +168,28 @@ fn check_tally(rt: &impl Abort, row: &Row, tally: &Tally) {
     assert_eq!(rt; tally.line, row.line);
 }
 
-/// How many lines have no literal, and whether the last is one. A line in binary ends with a zero byte, and has no other.
-fn empty_lines(bytes: &[u8], binary: bool) -> (u64, bool) {
-    let end = if binary { 0 } else { b'\n' };
-    let empty: &[u8] = if binary { b"a" } else { b"0" };
+/// Whether a line adds the clause without literals. In LRAT it has its number before and its hints after.
+fn adds_nothing(line: &[u8], format: &str) -> bool {
+    match format {
+        "--binary" => is_same(line, b"a"),
+        "--lrat" => {
+            let mut words = line.split(|byte| *byte == b' ');
+            let _number = words.next();
+            words.next().is_some_and(|word| is_same(word, b"0"))
+        }
+        _ => is_same(line, b"0"),
+    }
+}
+
+/// How many lines add the clause without literals, and whether the last does. A line in binary ends with a zero byte, and has
+/// no other.
+fn empty_lines(bytes: &[u8], format: &str) -> (u64, bool) {
+    let end = if format == "--binary" { 0 } else { b'\n' };
     let mut count = 0;
     let mut last = false;
     for line in bytes.split(|byte| *byte == end) {
         if !line.is_empty() {
-            last = is_same(line, empty);
+            last = adds_nothing(line, format);
             if last {
                 count = u64::saturating_add(count, 1);
             }
@@ -185,14 +198,25 @@ fn empty_lines(bytes: &[u8], binary: bool) -> (u64, bool) {
     (count, last)
 }
 
+/// The word that asks for the format of the proof, if one does.
+fn format_of<'a>(words: &[&'a str]) -> &'a str {
+    if words.contains(&"--binary") {
+        return "--binary";
+    }
+    if words.contains(&"--lrat") {
+        return "--lrat";
+    }
+    ""
+}
+
 /// The proof's writer has these bytes, made sure of them, and is for the path of the words.
 fn check_writer(rt: &impl Abort, row: &Row, wanted: &[u8], writer: &MemSink<'_>) {
     let taken = writer.bytes();
     assert!(rt; !row.compares_proof || is_same(taken, wanted));
     assert!(rt; taken.starts_with(row.front));
     if row.ends_log {
-        let binary = row.words.contains(&"--binary");
-        assert_eq!(rt; empty_lines(taken, binary), (1, true));
+        let format = format_of(row.words);
+        assert_eq!(rt; empty_lines(taken, format), (1, true));
     }
     let sure: &[u8] = if row.flushes_proof { taken } else { b"" };
     assert!(rt; is_same(writer.flushed_bytes(), sure));
@@ -496,6 +520,52 @@ fn refutations_in_binary(rt: HostRuntime) -> Result<(), Fail> {
     check_rows(&rt, &rows)
 }
 
+/// The proof in LRAT: a line begins with the number of its clause and ends with hints; a deletion has the last number given.
+#[test]
+fn refutations_with_hints(rt: HostRuntime) -> Result<(), Fail> {
+    let refuted = Row {
+        words: &["--lrat", "--proof", "P"],
+        status: 20,
+        out: b"s UNSATISFIABLE\n",
+        ..MODEL
+    };
+    let rows = [
+        Row {
+            input: b"p cnf 0 1\n0\n",
+            proof: Some(b"2 0 1 0\n"),
+            ..refuted
+        },
+        Row {
+            input: b"p cnf 1 2\n1 0\n-1 0\n",
+            proof: Some(b"3 0 1 2 0\n"),
+            ..refuted
+        },
+        Row {
+            input: TWO_VARIABLES,
+            proof: Some(b"5 1 0 1 2 0\n5 d 2 0\n6 2 0 5 3 0\n6 d 3 0\n7 0 5 6 4 0\n"),
+            ..refuted
+        },
+        // Without a path the format is of what goes nowhere.
+        Row {
+            words: &["--lrat"],
+            input: TWO_VARIABLES,
+            compares_proof: false,
+            ..refuted
+        },
+        // A write fails.
+        Row {
+            input: TWO_VARIABLES,
+            proof_fails: FIRST,
+            status: 7,
+            out: b"",
+            err: b"gimsatul: proof fault\n",
+            proof: Some(b""),
+            ..refuted
+        },
+    ];
+    check_rows(&rt, &rows)
+}
+
 #[test]
 fn bad_headers(rt: HostRuntime) -> Result<(), Fail> {
     let bad = Row {
@@ -729,7 +799,7 @@ fn words_that_are_refused(rt: HostRuntime) -> Result<(), Fail> {
         proof: None,
         ..PLAIN
     };
-    let table: [&[&str]; 35] = [
+    let table: [&[&str]; 38] = [
         &["--seed", "-1"],
         &["--seed", "9223372036854775808"],
         &["--seed", "1", "--seed", "1"],
@@ -741,6 +811,9 @@ fn words_that_are_refused(rt: HostRuntime) -> Result<(), Fail> {
         &["--check", "--check"],
         &["--binary", "--binary"],
         &["--add", "--add"],
+        &["--lrat", "--lrat"],
+        &["--lrat", "--binary"],
+        &["--lrat", "--add"],
         &["--threads", "0"],
         &["--threads", "17"],
         &["--threads", "1", "--threads", "1"],
@@ -1131,6 +1204,16 @@ fn checked_logs(rt: HostRuntime) -> Result<(), Fail> {
             compares_learned: false,
             ..PLAIN
         },
+        Row {
+            words: &["--threads", "4", "--no-simplify", "--check", "--lrat"],
+            input: PIGEONS,
+            status: 20,
+            out: b"c proof accepted\ns UNSATISFIABLE\n",
+            compares_proof: false,
+            learned: &[0, 0, 0, 0],
+            compares_learned: false,
+            ..PLAIN
+        },
     ];
     for row in &rows {
         check_row(&rt, *row, 65536)?;
@@ -1193,7 +1276,19 @@ fn one_log_of_two_rings(rt: HostRuntime) -> Result<(), Fail> {
         ],
         ..row
     };
-    check_rows(&rt, &[row, binary])
+    let hinted = Row {
+        words: &[
+            "--threads",
+            "2",
+            "--no-simplify",
+            "--check",
+            "--lrat",
+            "--proof",
+            "P",
+        ],
+        ..row
+    };
+    check_rows(&rt, &[row, binary, hinted])
 }
 
 /// Twelve clauses of three literals, each in a cell of five words, leave four words of 64.

@@ -182,8 +182,8 @@ module _ {S : Type 0} {d : Ghosts S} (written flushed target : S → Maybe (List
           )
 
       more_refused : (x : Maybe Refusal) (now : Bool) → (t.book.log.lines.spent ≡ true → now ≡ true) → IfSome x (λ z. IsRefused v.layout v.opening J t.book.log.lines.spent z) → IfSome x (λ z. IsRefused v.layout v.opening J now z)
-      more_refused None now more q = q
-      more_refused (Some z) now more q = refused_more v.layout v.opening J t.book.log.lines.spent now more z q
+      more_refused None now later q = q
+      more_refused (Some z) now later q = refused_more v.layout v.opening J t.book.log.lines.spent now later z q
 
       -- the sink failed at the line
       pub failed_turn : (t' : Turn S d) (x : NumberedLine) → numbered_after (book v.opening.formula J) e ≡ x ∷ [] → All (IsOn v.layout.vars) (lits_of (line_of x)) → t'.noted.items ≡ t.noted.items → t'.refused ≡ t.refused
@@ -256,15 +256,15 @@ module _ {S : Type 0} {d : Ghosts S} (written flushed target : S → Maybe (List
         }
 
     -- a clause that may be added and finds no hole
-    add_tight : (kind : Kind) (lits : List Literal) (need most : ℕ) → MayAdd v t kind lits → need ≡ words_for (length lits) → most ≡ largest (room v.layout v.opening J).holes → most < need → IsTight v.layout v.opening J need most
-    add_tight kind lits need most may need_is most_is short = turn_tight v t.noted.items kind lits need most s h.writing h.may may.0 may.1 may.2 may.3 need_is most_is short
+    add_tight : (kind : Kind) (lits : List Literal) (hints : List ℕ) (need most : ℕ) → MayAdd v t kind lits hints → need ≡ words_for (length lits) → most ≡ largest (room v.layout v.opening J).holes → most < need → IsTight v.layout v.opening J need most
+    add_tight kind lits hints need most may need_is most_is short = turn_tight v t.noted.items kind lits hints need most s h.writing h.may may.0 may.1 may.2 may.3 need_is most_is short
 
     module _ (t' : Turn S d) (noted_is : t'.noted.items ≡ t.noted.items) (refused_is : t'.refused ≡ t.refused) (alike : AreAlike t.book t'.book) where
       -- memory ran out
       pub stopped_memory : Stopped written flushed target faults v t t' stop.Memory
       stopped_memory = record { noted = noted_is; refused = refused_is; turn = alike_turn t' noted_is refused_is alike; grounded = tt; alike = λ _. alike }
 
-      module _ (whole : t.book.log.lines.spent ≡ false) (kind : Kind) (lits : List Literal) (need : ℕ) (may : MayAdd v t kind lits) (need_is : need ≡ words_for (length lits)) where
+      module _ (whole : t.book.log.lines.spent ≡ false) (kind : Kind) (lits : List Literal) (hints : List ℕ) (need : ℕ) (may : MayAdd v t kind lits hints) (need_is : need ≡ words_for (length lits)) where
         -- no hole is long enough
         pub stopped_room : (most : ℕ) → most ≡ largest t'.book.holes → most < need → Stopped written flushed target faults v t t' (stop.NoHole need most)
         stopped_room most most_is short = record {
@@ -272,7 +272,7 @@ module _ {S : Type 0} {d : Ghosts S} (written flushed target : S → Maybe (List
           refused = refused_is;
           turn = alike_turn t' noted_is refused_is alike;
           grounded = subst (λ (K : List Entry). IsTight v.layout v.opening K need most) (sym (ap (λ (ns : List Note). (written_of v ns).journal) noted_is))
-              (add_tight kind lits need most may need_is (most_is ∙ ap largest (alike.holes ∙ h.stands.holes whole)) short);
+              (add_tight kind lits hints need most may need_is (most_is ∙ ap largest (alike.holes ∙ h.stands.holes whole)) short);
           alike = λ _. alike;
         }
 

@@ -44,8 +44,8 @@ abbrev pub MayNext : {S : Type 0} {d : Ghosts S} → View → Turn S d → Note 
 MayNext v t n = MayNote v.layout v.opening (only v).core.ring (sheet v t).journal (sheet v t).part n
 
 -- a clause may be added next, except for the causes of a refusal
-abbrev pub MayAdd : {S : Type 0} {d : Ghosts S} → View → Turn S d → Kind → List Literal → Type 0
-MayAdd v t kind lits = MayAddClause v.opening (sheet v t).journal (sheet v t).part (only v).core.ring kind lits × IsLong lits × (follows (sheet v t).part lits ≡ true) × InVars v.layout lits
+abbrev pub MayAdd : {S : Type 0} {d : Ghosts S} → View → Turn S d → Kind → List Literal → List ℕ → Type 0
+MayAdd v t kind lits hints = MayAddClause v.opening (sheet v t).journal (sheet v t).part (only v).core.ring kind lits × IsLong lits × (follows v.opening.hinted (sheet v t).part lits hints ≡ true) × InVars v.layout lits
 
 -- how a refusal is noted, if it is
 abbrev pub noted_as : TurnStop → Option Refusal → Option Refusal

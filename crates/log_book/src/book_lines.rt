@@ -146,7 +146,6 @@ impl<S: Sink> Book<S> {
     /// Makes the entry that begins a round of the rings, whatever clauses and units they start with. It has no line, and takes
     /// no memory. It is refused only if as many entries stand as can.
     pub fn open_round(&mut self) -> Result<(), LineStop>
-        requires going { self.old.ended ≡ false }
         requires whole { self.old.log.lines.spent ≡ false }
         ensures counted { MatchResult result (λ _. CountsOneMore self.old self.new) (λ stop. IsFull self.old self.new stop) }
         ensures filled { OnOk result ((o : Origin) (J : List Entry) (x : RoundStart) → IsFilled o J (told_of S.written S.flushed S.target S.faults self.old) → IsFilled o (J ++ Round x ∷ []) (told_of S.written S.flushed S.target S.faults self.new)) }

@@ -15,7 +15,8 @@ use share_rule::Pass;
 use std::alloc::Global;
 
 impl<S: Sink> Turn<S> {
-    /// Adds a clause, and gives its cell the front of the first hole that is long enough.
+    /// Adds a clause, and gives its cell the front of the first hole that is long enough. In a log with hints these show that
+    /// the clause follows from what the ring knows; in other logs none are given.
     pub fn add(
         &mut self,
         pass: &Pass<Book<S>>,
@@ -23,46 +24,59 @@ impl<S: Sink> Turn<S> {
         kind: Kind,
         lits: &[Lit],
         glue: u32,
+        hints: &[u64],
     ) -> Result<Cref, TurnStop>
         requires seen { Seen pass.now.me.0 }
         requires turn { IsTurn S.written S.flushed S.target S.faults pass.now.me.0 self.old }
-        requires note { MayAdd pass.now.me.0 self.old kind lits.now }
-        ensures added { IfOk result (λ c. Grown S.written S.flushed S.target S.faults pass.now.me.0 self.old self.new (Clause kind lits.now glue c.address)) }
+        requires note { MayAdd pass.now.me.0 self.old kind lits.now hints.now }
+        ensures added { IfOk result (λ c. Grown S.written S.flushed S.target S.faults pass.now.me.0 self.old self.new (Clause kind lits.now hints.now glue c.address)) }
         ensures stopped { IfErr result (Refused S.written S.flushed S.target S.faults pass.now.me.0 self.old self.new) }
         ensures cause { IfErr result (IsAddCause S.faults pass.now.me.0 self.old self.new (length lits.now)) }
     {
-        match self.write_clause(alloc, pass, kind, lits, glue) {
+        match self.write_clause(alloc, pass, kind, lits, glue, hints) {
             Ok(given) => Ok(given),
             Err(stop) => Err(self.refuse(pass, stop)),
         }
     }
 
-    /// Adds a unit, and gives its number.
-    pub fn add_unit(&mut self, pass: &Pass<Book<S>>, kind: Kind, lit: Lit) -> Result<u64, TurnStop>
+    /// Adds a unit, and gives its number. Hints as for a clause.
+    pub fn add_unit(
+        &mut self,
+        pass: &Pass<Book<S>>,
+        alloc: Global,
+        kind: Kind,
+        lit: Lit,
+        hints: &[u64],
+    ) -> Result<u64, TurnStop>
         requires seen { Seen pass.now.me.0 }
         requires turn { IsTurn S.written S.flushed S.target S.faults pass.now.me.0 self.old }
-        requires note { MayNext pass.now.me.0 self.old (UnitNote kind lit) }
-        ensures added { OnOk result (Grown S.written S.flushed S.target S.faults pass.now.me.0 self.old self.new (UnitNote kind lit)) }
+        requires note { MayNext pass.now.me.0 self.old (UnitNote kind lit hints.now) }
+        ensures added { OnOk result (Grown S.written S.flushed S.target S.faults pass.now.me.0 self.old self.new (UnitNote kind lit hints.now)) }
         ensures number { IfOk result (λ n. n ≡ next_number pass.now.me.0.opening (sheet pass.now.me.0 self.old).journal) }
         ensures stopped { IfErr result (Refused S.written S.flushed S.target S.faults pass.now.me.0 self.old self.new) }
         ensures cause { IfErr result (IsCause S.faults pass.now.me.0 self.old self.new) }
     {
-        match self.write_unit(pass, kind, lit) {
+        match self.write_unit(alloc, pass, kind, lit, hints) {
             Ok(given) => Ok(given),
             Err(stop) => Err(self.refuse(pass, stop)),
         }
     }
 
-    /// Adds the empty clause, which ends the log.
-    pub fn add_empty(&mut self, pass: &Pass<Book<S>>) -> Result<(), TurnStop>
+    /// Adds the empty clause, which ends the log. Hints as for a clause.
+    pub fn add_empty(
+        &mut self,
+        pass: &Pass<Book<S>>,
+        alloc: Global,
+        hints: &[u64],
+    ) -> Result<(), TurnStop>
         requires seen { Seen pass.now.me.0 }
         requires turn { IsTurn S.written S.flushed S.target S.faults pass.now.me.0 self.old }
-        requires note { MayNext pass.now.me.0 self.old Empty }
-        ensures added { OnOk result (Grown S.written S.flushed S.target S.faults pass.now.me.0 self.old self.new Empty) }
+        requires note { MayNext pass.now.me.0 self.old (Empty hints.now) }
+        ensures added { OnOk result (Grown S.written S.flushed S.target S.faults pass.now.me.0 self.old self.new (Empty hints.now)) }
         ensures stopped { IfErr result (Refused S.written S.flushed S.target S.faults pass.now.me.0 self.old self.new) }
         ensures cause { IfErr result (IsCause S.faults pass.now.me.0 self.old self.new) }
     {
-        match self.write_empty(pass) {
+        match self.write_empty(alloc, pass, hints) {
             Ok(()) => Ok(()),
             Err(stop) => Err(self.refuse(pass, stop)),
         }

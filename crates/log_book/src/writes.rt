@@ -12,7 +12,7 @@ use crate::stop::TurnStop;
 use crate::turn::Turn;
 use clause_cell::{HoleStop, words_for};
 use io_edge::{Failed, Sink};
-use rup_model::Kind;
+use rup_model::{ClauseNumbers, Kind};
 use sat_words::{Cref, Lit, Lits};
 use share_rule::{Note, Pass};
 use std::alloc::Global;
@@ -20,14 +20,16 @@ use std::alloc::Global;
 impl<S: Sink> Turn<S> {
     pub(crate) fn write_unit(
         &mut self,
+        alloc: Global,
         pass: &Pass<Book<S>>,
         kind: Kind,
         lit: Lit,
+        hints: &[u64],
     ) -> Result<u64, TurnStop>
         requires seen { Seen pass.now.me.0 }
         requires turn { IsTurn S.written S.flushed S.target S.faults pass.now.me.0 self.old }
-        requires note { MayNext pass.now.me.0 self.old (UnitNote kind lit) }
-        ensures added { OnOk result (Grown S.written S.flushed S.target S.faults pass.now.me.0 self.old self.new (UnitNote kind lit)) }
+        requires note { MayNext pass.now.me.0 self.old (UnitNote kind lit hints.now) }
+        ensures added { OnOk result (Grown S.written S.flushed S.target S.faults pass.now.me.0 self.old self.new (UnitNote kind lit hints.now)) }
         ensures number { IfOk result (λ n. n ≡ next_number pass.now.me.0.opening (sheet pass.now.me.0 self.old).journal) }
         ensures stopped { IfErr result (Stopped S.written S.flushed S.target S.faults pass.now.me.0 self.old self.new) }
         ensures cause { IfErr result (IsCause S.faults pass.now.me.0 self.old self.new) }
@@ -35,36 +37,51 @@ impl<S: Sink> Turn<S> {
         if let Err(stop) = self.test(pass) {
             return Err(stop);
         }
+        let Ok(copy) = ClauseNumbers::from_slice(alloc, hints) else {
+            return Err(TurnStop::Memory);
+        };
         let lits = [lit];
         if self.make_room_to_add(&lits).is_err() {
             return Err(TurnStop::Memory);
         }
-        match self.book.write_addition(&lits, &[]) {
+        match self.book.write_addition(&lits, hints) {
             Ok(number) => {
-                self.noted.push_reserved(Note::Unit { kind, lit });
+                self.noted.push_reserved(Note::Unit {
+                    kind,
+                    lit,
+                    hints: copy,
+                });
                 Ok(number)
             }
             Err(Failed) => Err(TurnStop::ProofFault),
         }
     }
 
-    pub(crate) fn write_empty(&mut self, pass: &Pass<Book<S>>) -> Result<(), TurnStop>
+    pub(crate) fn write_empty(
+        &mut self,
+        alloc: Global,
+        pass: &Pass<Book<S>>,
+        hints: &[u64],
+    ) -> Result<(), TurnStop>
         requires seen { Seen pass.now.me.0 }
         requires turn { IsTurn S.written S.flushed S.target S.faults pass.now.me.0 self.old }
-        requires note { MayNext pass.now.me.0 self.old Empty }
-        ensures added { OnOk result (Grown S.written S.flushed S.target S.faults pass.now.me.0 self.old self.new Empty) }
+        requires note { MayNext pass.now.me.0 self.old (Empty hints.now) }
+        ensures added { OnOk result (Grown S.written S.flushed S.target S.faults pass.now.me.0 self.old self.new (Empty hints.now)) }
         ensures stopped { IfErr result (Stopped S.written S.flushed S.target S.faults pass.now.me.0 self.old self.new) }
         ensures cause { IfErr result (IsCause S.faults pass.now.me.0 self.old self.new) }
     {
         if let Err(stop) = self.test(pass) {
             return Err(stop);
         }
+        let Ok(copy) = ClauseNumbers::from_slice(alloc, hints) else {
+            return Err(TurnStop::Memory);
+        };
         if self.make_room_to_add(&[]).is_err() {
             return Err(TurnStop::Memory);
         }
-        match self.book.write_addition(&[], &[]) {
+        match self.book.write_addition(&[], hints) {
             Ok(_) => {
-                self.noted.push_reserved(Note::Empty);
+                self.noted.push_reserved(Note::Empty { hints: copy });
                 Ok(())
             }
             Err(Failed) => Err(TurnStop::ProofFault),
@@ -146,11 +163,12 @@ impl<S: Sink> Turn<S> {
         kind: Kind,
         lits: &[Lit],
         glue: u32,
+        hints: &[u64],
     ) -> Result<Cref, TurnStop>
         requires seen { Seen pass.now.me.0 }
         requires turn { IsTurn S.written S.flushed S.target S.faults pass.now.me.0 self.old }
-        requires note { MayAdd pass.now.me.0 self.old kind lits.now }
-        ensures added { IfOk result (λ c. Grown S.written S.flushed S.target S.faults pass.now.me.0 self.old self.new (Clause kind lits.now glue c.address)) }
+        requires note { MayAdd pass.now.me.0 self.old kind lits.now hints.now }
+        ensures added { IfOk result (λ c. Grown S.written S.flushed S.target S.faults pass.now.me.0 self.old self.new (Clause kind lits.now hints.now glue c.address)) }
         ensures stopped { IfErr result (Stopped S.written S.flushed S.target S.faults pass.now.me.0 self.old self.new) }
         ensures cause { IfErr result (IsAddCause S.faults pass.now.me.0 self.old self.new (length lits.now)) }
     {
@@ -159,6 +177,9 @@ impl<S: Sink> Turn<S> {
         }
         let need = words_for(lits.len() as u32);
         let Ok(copy) = Lits::from_slice(alloc, lits) else {
+            return Err(self.no_memory(need));
+        };
+        let Ok(numbers) = ClauseNumbers::from_slice(alloc, hints) else {
             return Err(self.no_memory(need));
         };
         if self.make_room_to_add(lits).is_err() {
@@ -172,11 +193,12 @@ impl<S: Sink> Turn<S> {
             // `none` of `Holes::take`: it refuses only if no hole is long enough
             Err(HoleStop::Memory) => unreachable!(),
         };
-        match self.book.write_addition(lits, &[]) {
+        match self.book.write_addition(lits, hints) {
             Ok(_) => {
                 self.noted.push_reserved(Note::Clause {
                     kind,
                     lits: copy,
+                    hints: numbers,
                     glue,
                     address,
                 });

@@ -31,12 +31,12 @@ use Rattle.share_rule.specs.declared.view.BookOrigin.{BookOrigin}
 use Rattle.share_rule.specs.declared.view.View.{View}
 use Rattle.share_rule.specs.Books.{StandsFor}
 use Rattle.share_rule.specs.Passes.{TellsFaults}
-use Rattle.share_rule.specs.Rests.{NoneBuild, AreRests, TellsRests}
+use Rattle.share_rule.specs.Rests.{NoneBuild, AreRests, AreListed, TellsRests}
 use Rattle.share_rule.specs.Seen.{Seen}
 use Rattle.share_rule.specs.Views.{first_view}
 use Rattle.log_book.specs.declared.book.Book.{Book}
 use Rattle.log_book.specs.Books.{begun, no_byte, account_of, IsLogOf, IsFilled, origin_of, told_new, told_of}
-use Rattle.simp_base.specs.WorkState.{known, resumed}
+use Rattle.simp_base.specs.WorkState.{known, resumed, unit_cells}
 use Rattle.simp_base.specs.Resumed.{Resumes}
 use Rattle.ruler_simp.specs.declared.ruling.Outcome.{Outcome}
 use Rattle.ruler_simp.specs.declared.ruling.Outcome.TheVariants.{Simplified as LeftOver, Refuted as NoModel}
@@ -93,7 +93,7 @@ module _ {S : Type 0} {d : Ghosts S} (written flushed target : S → Option (Lis
   J0 = journal_at (pause_of written flushed target faults sink plan F h.left w.before w.done_before h.opened.book) was
 
   abbrev v : View
-  v = first_view t.layout (began_with F t.layout J0 left) h.opened.origin
+  v = first_view t.layout (began_with F t.layout (has_hints plan.format) J0 left) h.opened.origin
 
   has_searched : HasSearched t v h.home plan F.vars left.stack p (replicate plan.threads no_counts) w.counts Unknown
   has_searched = searched written flushed target faults sink plan F on rings few_rings vars stack w.before w.done_before w.limit t p w.counts Unknown h
@@ -150,7 +150,7 @@ module _ {S : Type 0} {d : Ghosts S} (written flushed target : S → Option (Lis
     core : Sound s.core
     core = left_sound s.core.opening s.core s.left
 
-    opening_is : s.core.opening ≡ began_with F t.layout J0 left
+    opening_is : s.core.opening ≡ began_with F t.layout (has_hints plan.format) J0 left
     opening_is = sym s.opening ∙ all_gathered.same.opening
 
     rings_there : s.core.opening.rings ≡ plan.threads
@@ -220,8 +220,8 @@ module _ {S : Type 0} {d : Ghosts S} (written flushed target : S → Option (Lis
 
       -- None had
 
-      module _ (unbroken : fault ≡ false) (plain : has_hints plan.format ≡ false) (held : List Rest) (units : List Literal) (tells_rests : TellsRests s.core s.glue fault held units) where
-        told : AreRests s.core s.glue held × (units ≡ s.core.units)
+      module _ (unbroken : fault ≡ false) (held : List Rest) (units : List (Literal × ℕ)) (tells_rests : TellsRests s.core s.glue fault held units) where
+        told : AreRests s.core s.glue held × AreListed s.core units
         told = subst (λ (f : Bool). TellsRests s.core s.glue f held units) unbroken tells_rests
 
         unspent : b.log.lines.spent ≡ false
@@ -245,27 +245,27 @@ module _ {S : Type 0} {d : Ghosts S} (written flushed target : S → Option (Lis
         format_there : p.me.0.origin.format ≡ plan.format
         format_there = ap (λ (o : BookOrigin). o.format) origin_is ∙ h.opened.format_is
 
-        -- and no hints
-        pub plain_there : has_hints old.format ≡ false
-        plain_there = ap has_hints ((log_there.whole unspent).format ∙ format_there) ∙ plain
+        -- the lines are spelled as the plan says
+        pub format_old : old.format ≡ plan.format
+        format_old = (log_there.whole unspent).format ∙ format_there
 
-        resumes_there : Resumes F.clauses left.vars (map cell_of held) units left.stack old J
+        resumes_there : Resumes F.clauses left.vars (map cell_of held ++ unit_cells units) units left.stack old J
         resumes_there =
             let last = last_is in
-            resumes F left t.layout J0 was.is_left p.me.0 s opening_is all_gathered.whole all_gathered.settled held units told.0 told.1 old stands.log.entries (omega (arith, last)) all_on passed.going plain_there
+            resumes F left t.layout (has_hints plan.format) J0 was.is_left p.me.0 s opening_is all_gathered.whole all_gathered.settled held units told.0 told.1 old stands.log.entries (omega (arith, last)) all_on passed.going (λ q. passed.hinted (ap has_hints (sym format_old) ∙ q))
 
         pub left_after : AreLeftAfter F.clauses vars held units stack old J
         left_after =
             subst (λ (y : ℕ × List Fix). AreLeftAfter F.clauses y.0 held units y.1 old J) (λ i. (sym h.vars_is i, sym h.stack_is i))
-            (resumes_there, rests_long F left t.layout J0 was.is_left p.me.0 s opening_is all_gathered.whole all_gathered.settled held units told.0 told.1)
+            (resumes_there, rests_long F left t.layout (has_hints plan.format) J0 was.is_left p.me.0 s opening_is all_gathered.whole all_gathered.settled held units told.0 told.1)
 
         dropped : AreDropped (run s) (dropped_of held)
-        dropped = are_dropped F left t.layout J0 was.is_left p.me.0 s opening_is all_gathered.whole all_gathered.settled held units told.0 told.1 v h.home plan 0 end.0 end.1 ran all_gathered.same.opening below (run s) refl
+        dropped = are_dropped F left t.layout (has_hints plan.format) J0 was.is_left p.me.0 s opening_is all_gathered.whole all_gathered.settled held units told.0 told.1 v h.home plan 0 end.0 end.1 ran all_gathered.same.opening below (run s) refl
 
-        lifts_there : (out : LineState) → Lifts F.clauses (known (resumed vars (kept_of held) units stack out)) stack
+        lifts_there : (out : LineState) → Lifts F.clauses (known (resumed vars (kept_of held ++ unit_cells units) units stack out)) stack
         lifts_there out =
-            subst (λ (y : ℕ × List Fix). Lifts F.clauses (known (resumed y.0 (kept_of held) units y.1 out)) y.1) (λ i. (sym h.vars_is i, sym h.stack_is i))
-            (lifts F left t.layout J0 was.is_left p.me.0 s opening_is all_gathered.whole all_gathered.settled held units told.0 told.1 v h.home plan 0 end.0 end.1 ran all_gathered.same.opening below out)
+            subst (λ (y : ℕ × List Fix). Lifts F.clauses (known (resumed y.0 (kept_of held ++ unit_cells units) units y.1 out)) y.1) (λ i. (sym h.vars_is i, sym h.stack_is i))
+            (lifts F left t.layout (has_hints plan.format) J0 was.is_left p.me.0 s opening_is all_gathered.whole all_gathered.settled held units told.0 told.1 v h.home plan 0 end.0 end.1 ran all_gathered.same.opening below out)
 
         -- the output has the lines since the first
 
@@ -277,7 +277,7 @@ module _ {S : Type 0} {d : Ghosts S} (written flushed target : S → Option (Lis
             let text = log_there.whole unspent in
             record {
               quiet = text.quiet ∙ ap (λ (o : BookOrigin). o.faults) origin_is ∙ h.opened.faults_are;
-              format = text.format ∙ format_there;
+              format = format_old;
               bytes =
                   text.bytes
                   ∙ (λ i. append_known (no_byte (tells_there i)) (proof_bytes (format_there i) (numbered_lines F.clauses J)))
@@ -328,25 +328,25 @@ module _ {S : Type 0} {d : Ghosts S} (written flushed target : S → Option (Lis
           early stop is e =
               let same : e.stop ≡ stop = (let both : Err e.stop ≡ Err stop = sym e.is ∙ is in cc both) in
               subst (λ (x : LineStop). ComesTo plan F (stopped_answer x) tally before now) same
-              (stopped_early plan F vars stack tally done (run s) was.runs J passed more held units dropped before old filled_there left_after now result e)
+              (stopped_early plan F vars stack tally done (run s) was.runs J passed more held units dropped before old refl filled_there left_after now result e)
 
           pub over_stopped : (stop : LineStop) → result ≡ Err stop → HasReached written flushed target faults sink plan F (stopped_answer stop) tally new
           over_stopped stop is = book_reached (stopped_answer stop) (by went)
             where
               by : WentOn F.clauses (schedule_of plan) vars held units stack old now result → ComesTo plan F (stopped_answer stop) tally before now
               by (inl e) = early stop is e
-              by (inr e) = stopped_late plan F vars stack tally done (run s) was.runs J passed more held units dropped before old filled_there left_after now result e stop is
+              by (inr e) = stopped_late plan F vars stack tally done (run s) was.runs J passed more held units dropped before old refl filled_there left_after now result e stop is
 
           pub over_refuted : result ≡ Ok NoModel → HasReached written flushed target faults sink plan F Unsat tally new
           over_refuted is = book_reached Unsat (by went)
             where
               by : WentOn F.clauses (schedule_of plan) vars held units stack old now result → ComesTo plan F Unsat tally before now
               by (inl e) = (let clash : Ok NoModel ≡ Err e.stop = sym is ∙ e.is in absurd (cc clash))
-              by (inr e) = refuted plan F vars stack tally done (run s) was.runs J passed more held units dropped before old filled_there left_after now result e is
+              by (inr e) = refuted plan F vars stack tally done (run s) was.runs J passed more held units dropped before old refl filled_there left_after now result e is
 
           pub paused_again : (l : Simplified) → result ≡ Ok (LeftOver l) → IsPaused (pause_of written flushed target faults sink plan F l tally done new)
           paused_again l is = by went
             where
               by : WentOn F.clauses (schedule_of plan) vars held units stack old now result → IsPaused (pause_of written flushed target faults sink plan F l tally done new)
               by (inl e) = (let clash : Ok (LeftOver l) ≡ Err e.stop = sym is ∙ e.is in absurd (cc clash))
-              by (inr e) = paused plan F vars stack tally done (run s) was.runs J passed more held units dropped before old filled_there left_after now result e l is (lifts_there e.middle)
+              by (inr e) = paused plan F vars stack tally done (run s) was.runs J passed more held units dropped before old refl filled_there left_after now result e l is (lifts_there e.middle)

@@ -1,4 +1,9 @@
 -- What a closed table leaves can be gone on with: its cells and units are all that is alive, and the start clauses stay.
+use Rattle.portfolio_run.proofs.Deleting.{two_long}
+use Rattle.ruler_simp.proofs.UnitCells.{own_together, held_together, alone_together, held_after}
+use Rattle.ruler_simp.specs.Ruled.{HaveUnitNumbers}
+use Rattle.share_core.specs.State.{ArePaired, unit_numbers}
+use Rattle.portfolio_run.proofs.UnitPairs.{numbered_of}
 use Rattle.std.proofs.Common.{Less, None, ◌≡◌, ◌∙◌, ◌⊎◌, ◌<◌, ◌≤◌, ◌+◌, ◌||◌, ◌==◌, ℕ, zero, suc, Bool, true, false, not, cond, List, [], ◌∷◌, ◌++◌, map, filter, length, All, Contains, Option, Some, refl, sym, ap, subst, inl, inr, ⊎_elim, arith, append_assoc, append-nil, length-append}
 use Rattle.std.specs.Prelude.{nat_lt}
 use Rattle.std.specs.List.{list_any, fold, AllByRecursion, range_with_len}
@@ -21,6 +26,7 @@ use Rattle.rup_model.specs.declared.journal.TheConstants.{RULER_RING}
 use Rattle.rup_model.specs.declared.journal.Entry.{Entry}
 use Rattle.rup_model.specs.declared.journal.Entry.TheVariants.{Round}
 use Rattle.rup_model.specs.Journal.{ring_of, Book, formula_book, book_after, book, added, is_told, LogSound}
+use Rattle.rup_model.specs.NumberedLines.{AreHinted}
 use Rattle.rup_model.specs.Opening.{Start, start_at}
 use Rattle.rup_model.proofs.Additions.{added-append}
 use Rattle.rup_model.proofs.Lists.{In, all_In, In_all, In_append, In_append_left, In_append_right, In_map, map_In, In_has, Contains_In, In_Contains}
@@ -41,10 +47,10 @@ use Rattle.share_rule.specs.declared.view.View.{View}
 use Rattle.share_rule.specs.FirstWords.{starts_at, begun_with}
 use Rattle.share_rule.specs.Layout.{first_cell}
 use Rattle.share_rule.specs.Passes.{IsWhole}
-use Rattle.share_rule.specs.Rests.{rest_of, IsRest, AreRests}
+use Rattle.share_rule.specs.Rests.{rest_of, IsRest, AreRests, AreListed}
 use Rattle.share_rule.specs.Seen.{Seen}
 use Rattle.clause_cell.specs.Packing.{words_for}
-use Rattle.simp_base.specs.WorkState.{HaveOwnNumbers, lists, unit_clauses, known, resumed}
+use Rattle.simp_base.specs.WorkState.{HaveOwnNumbers, lists, unit_clauses, unit_cells, unit_lits, known, resumed}
 use Rattle.simp_base.specs.Parts.{takes_part}
 use Rattle.simp_base.specs.Resumed.{Resumes}
 use Rattle.simp_base.proofs.Filters.{In_filter, filter_In}
@@ -175,9 +181,9 @@ none_less n = grind (arith, nat_tests)
 
 -- The table
 
-module _ (F : FormulaData) (left : Simplified) (l : Layout) (J0 : List Entry) (h : IsLeft F J0 left) (w : View) (s : Seen w)
-    (opening_is : s.core.opening ≡ begun_with F.clauses l (before_round J0 left) left.start.items left.units.items) (whole : IsWhole w) (settled : All IsSettled w.parts)
-    (rests : List Rest) (units : List Literal) (told : AreRests s.core s.glue rests) (units_are : units ≡ s.core.units) where
+module _ (F : FormulaData) (left : Simplified) (l : Layout) (hinted : Bool) (J0 : List Entry) (h : IsLeft F J0 left) (w : View) (s : Seen w)
+    (opening_is : s.core.opening ≡ begun_with F.clauses l hinted (before_round J0 left) left.start.items left.units.items) (whole : IsWhole w) (settled : All IsSettled w.parts)
+    (rests : List Rest) (units : List (Literal × ℕ)) (told : AreRests s.core s.glue rests) (listed : AreListed s.core units) where
   abbrev J : List Entry
   J = s.core.journal
 
@@ -219,7 +225,7 @@ module _ (F : FormulaData) (left : Simplified) (l : Layout) (J0 : List Entry) (h
   in_cells : (n : ℕ) (c : List Literal) → Contains (map (λ (p : Pair). p.0) left.start.items) n ⊎ ((book F.clauses (before_round J0 left)).next ≤ n)
       → (book F.clauses J).clause n ≡ Some c → takes_part c ≡ true → Contains (map cell_of rests) (n, clause_of c)
   in_cells n c shared is part =
-      let all : AllInCells (begun_with F.clauses l (before_round J0 left) left.start.items left.units.items) J s.core.cell = subst (λ (o : CoreOpening). AllInCells o J s.core.cell) opening_is core.whole in
+      let all : AllInCells (begun_with F.clauses l hinted (before_round J0 left) left.start.items left.units.items) J s.core.cell = subst (λ (o : CoreOpening). AllInCells o J s.core.cell) opening_is core.whole in
       let numbers = placed_numbers (first_cell l) left.start.items in
       let t = all n c (⊎_elim (λ (k : Contains (map (λ (p : Pair). p.0) left.start.items) n). inl (subst (λ (ns : List ℕ). Contains ns n) (sym numbers) k)) (λ (k : (book F.clauses (before_round J0 left)).next ≤ n). inr k) shared) is (and_parts (two_or_more c) (not (has_opposites c)) part).0 in
       let both : Some t.1.lits ≡ Some c = sym (alive t.0 t.1 t.2) ∙ ap (λ (m : ℕ). (book F.clauses J).clause m) t.3 ∙ is in
@@ -248,34 +254,50 @@ module _ (F : FormulaData) (left : Simplified) (l : Layout) (J0 : List Entry) (h
 
   -- Units
 
-  grown : (more : List Literal) × (units ≡ left.units.items ++ more)
+  units_are : unit_lits units ≡ s.core.units
+  units_are = listed.units
+
+  grown : (more : List Literal) × (unit_lits units ≡ unit_lits left.units.items ++ more)
   grown =
       let t = run_units s.left.events (opened s.core.opening) in
       (t.0, units_are ∙ ap (λ (c : State). c.units) (sym s.left.leaves) ∙ t.1 ∙ ap (λ (o : CoreOpening). o.units ++ t.0) opening_is)
 
-  unit_stays : (k : Literal) → has left.units.items k ≡ true → has units k ≡ true
-  unit_stays k e = ap (λ (ls : List Literal). has ls k) grown.1 ∙ list_any-append (same k) left.units.items grown.0 ∙ or_left (has left.units.items k) (has grown.0 k) e
+  unit_stays : (k : Literal) → has (unit_lits left.units.items) k ≡ true → has (unit_lits units) k ≡ true
+  unit_stays k e = ap (λ (ls : List Literal). has ls k) grown.1 ∙ list_any-append (same k) (unit_lits left.units.items) grown.0 ∙ or_left (has (unit_lits left.units.items) k) (has grown.0 k) e
 
-  every : (k : Literal) → is_told F.clauses J k ≡ true → has units k ≡ true
+  every : (k : Literal) → is_told F.clauses J k ≡ true → has (unit_lits units) k ≡ true
   every k t = ⊎_elim
       (λ (old : is_told F.clauses (before_round J0 left) k ≡ true). unit_stays k (h.units k ∙ opened_unit F.clauses J0 k (ap (λ (G : List (List Literal)). list_any (same_set (k ∷ [])) (F.clauses ++ G)) (sym (added-append J0 (Round (round_start left) ∷ []) ∙ append-nil (added J0))) ∙ old)))
       (λ (new : list_any (same_set (k ∷ [])) (added K) ≡ true). ap (λ (ls : List Literal). has ls k) units_are ∙ units_listed w s whole settled k new)
       (told_parts F.clauses (before_round J0 left) K k (ap (λ (I : List Entry). is_told F.clauses I k) (sym journal_is) ∙ t))
 
+  numbered : HaveUnitNumbers (book F.clauses J) units
+  numbered = numbered_of (book F.clauses J) units
+      (subst (λ (y : List (List Literal) × (List Literal × List ℕ)). ArePaired (book y.0 J) y.1.0 y.1.1) (λ i. (formula_is i, (sym units_are i, sym listed.numbers i))) core.units.paired)
+
+  distinct : distinct_lits (unit_lits units) ≡ true
+  distinct = ap distinct_lits units_are ∙ core.units.distinct
+
+  cells_long : All (λ (x : Pair). 2 ≤ length x.1) (map cell_of rests)
+  cells_long = In_All (λ (x : Pair). 2 ≤ length x.1) (map cell_of rests) (λ x i.
+      let t = map_In cell_of rests x i in
+      subst (λ (z : Pair). 2 ≤ length z.1) t.2 (two_long t.0.clause (All_In (λ (r : Rest). two_or_more r.clause ≡ true) rests t.0 rests_long t.1)))
+
   -- Going on
 
-  pub resumes : (out : LineState) → out.entries ≡ length J → (book F.clauses J).next ≡ out.last + 1 → All (All (IsOn left.vars)) (F.clauses ++ added J) → IsUnrefuted J → has_hints out.format ≡ false → Resumes F.clauses left.vars (map cell_of rests) units left.stack out J
-  resumes out entries last on going plain = record {
+  pub resumes : (out : LineState) → out.entries ≡ length J → (book F.clauses J).next ≡ out.last + 1 → All (All (IsOn left.vars)) (F.clauses ++ added J) → IsUnrefuted J → (has_hints out.format ≡ true → AreHinted F.clauses J) → Resumes F.clauses left.vars (map cell_of rests ++ unit_cells units) units left.stack out J
+  resumes out entries last on going hinted = record {
     sound = log;
-    hinted = λ q. absurd (true≢false (sym q ∙ plain));
+    hinted = hinted;
     going = list_any-append is_empty F.clauses (added J) ∙ (λ i. h.whole i || going i);
-    numbers = own_numbers (map cell_of rests) (subst (IsStrictlySortedBy nat_cmp) (sym (numbers_same rests)) told.ascending);
-    held = held;
-    all = all_cells;
-    told = In_All (λ k. is_told F.clauses J k ≡ true) units (λ k i. subst (λ (G : List (List Literal)). is_told G J k ≡ true) formula_is (core.units.told k (In_has s.core.units k (subst (λ (ls : List Literal). In k ls) units_are i))));
+    numbers = own_together (book F.clauses J) (map cell_of rests) units numbered distinct held cells_long (own_numbers (map cell_of rests) (subst (IsStrictlySortedBy nat_cmp) (sym (numbers_same rests)) told.ascending));
+    held = held_together (book F.clauses J) (map cell_of rests) units numbered distinct held cells_long;
+    all = λ n c is part. In_Contains (map cell_of rests ++ unit_cells units) (n, clause_of c) (In_append_left (map cell_of rests) (unit_cells units) (n, clause_of c) (Contains_In (map cell_of rests) (n, clause_of c) (all_cells n c is part)));
+    alone = alone_together (book F.clauses J) (map cell_of rests) units numbered distinct held cells_long;
+    told = In_All (λ k. is_told F.clauses J k ≡ true) (unit_lits units) (λ k i. subst (λ (G : List (List Literal)). is_told G J k ≡ true) formula_is (core.units.told k (In_has s.core.units k (subst (λ (ls : List Literal). In k ls) units_are i))));
     every = every;
-    distinct = ap distinct_lits units_are ∙ core.units.distinct;
-    units_held = λ q. absurd (true≢false (sym q ∙ plain));
+    distinct = distinct;
+    units_held = held_after (map cell_of rests) units;
     on = on;
     stack_on = h.on.stack;
     entries = entries;
@@ -327,14 +349,15 @@ module _ (F : FormulaData) (left : Simplified) (l : Layout) (J0 : List Entry) (h
     }
 
     -- a model of what is kept is one of what the round began with
-    kept_clause : (c : List Literal) → In c (left_clauses left) → In c (lists (kept_of rests) ++ unit_clauses units)
+    kept_clause : (c : List Literal) → In c (left_clauses left) → In c (lists (kept_of rests ++ unit_cells units) ++ unit_clauses (unit_lits units))
     kept_clause c i = ⊎_elim
         (λ (j : In c (lists left.start.items)). (let q = map_In (λ (p : Pair). p.1) left.start.items c j in
-        In_append_left (lists (kept_of rests)) (unit_clauses units) c (subst (λ (d : List Literal). In d (lists (kept_of rests))) q.2 (In_map (λ (p : Pair). p.1) (kept_of rests) q.0 (kept_start q.0 q.1)))))
-        (λ (j : In c (unit_clauses left.units.items)). (let q = map_In (λ (k : Literal). k ∷ []) left.units.items c j in
-        let there : In q.0 units = subst (λ (ls : List Literal). In q.0 ls) (sym grown.1) (In_append_left left.units.items grown.0 q.0 q.1) in
-        In_append_right (lists (kept_of rests)) (unit_clauses units) c (subst (λ (d : List Literal). In d (unit_clauses units)) q.2 (In_map (λ (k : Literal). k ∷ []) units q.0 there))))
-        (In_append (lists left.start.items) (unit_clauses left.units.items) c i)
+        In_append_left (lists (kept_of rests ++ unit_cells units)) (unit_clauses (unit_lits units)) c
+        (subst (λ (d : List Literal). In d (lists (kept_of rests ++ unit_cells units))) q.2 (In_map (λ (p : Pair). p.1) (kept_of rests ++ unit_cells units) q.0 (In_append_left (kept_of rests) (unit_cells units) q.0 (kept_start q.0 q.1))))))
+        (λ (j : In c (unit_clauses (unit_lits left.units.items))). (let q = map_In (λ (k : Literal). k ∷ []) (unit_lits left.units.items) c j in
+        let there : In q.0 (unit_lits units) = subst (λ (ls : List Literal). In q.0 ls) (sym grown.1) (In_append_left (unit_lits left.units.items) grown.0 q.0 q.1) in
+        In_append_right (lists (kept_of rests ++ unit_cells units)) (unit_clauses (unit_lits units)) c (subst (λ (d : List Literal). In d (unit_clauses (unit_lits units))) q.2 (In_map (λ (k : Literal). k ∷ []) (unit_lits units) q.0 there))))
+        (In_append (lists left.start.items) (unit_clauses (unit_lits left.units.items)) c i)
 
-    pub lifts : (out : LineState) → Lifts F.clauses (known (resumed left.vars (kept_of rests) units left.stack out)) left.stack
-    lifts out a t = h.lifts a (In_all (clause_true a) (left_clauses left) (λ c i. all_In (clause_true a) (lists (kept_of rests) ++ unit_clauses units) c t (kept_clause c i)))
+    pub lifts : (out : LineState) → Lifts F.clauses (known (resumed left.vars (kept_of rests ++ unit_cells units) units left.stack out)) left.stack
+    lifts out a t = h.lifts a (In_all (clause_true a) (left_clauses left) (λ c i. all_In (clause_true a) (lists (kept_of rests ++ unit_cells units) ++ unit_clauses (unit_lits units)) c t (kept_clause c i)))

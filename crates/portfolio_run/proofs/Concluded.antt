@@ -1,4 +1,5 @@
 -- Once all rings ran over an open table and the table was closed, the answer holds over one journal, whose lines the book has.
+use Rattle.sat_words.specs.Formats.{has_hints}
 use Rattle.io_edge.specs.declared.edge.Sink.{Ghosts}
 use Rattle.std.proofs.Common.{◌≡◌, ◌∙◌, ◌+◌, ◌<◌, ◌≤◌, ◌==◌, ℕ, zero, suc, Bool, true, false, true≢false, List, [], ◌∷◌, length, get_or, replicate, map, ne_eqb, refl, sym, ap, subst, arith, inl, inr}
 use Rattle.std.specs.Prelude.{◌⊎◌, ◌≢◌, All, Option, Some, is_some}
@@ -87,7 +88,7 @@ module _ {S : Type 0} {d : Ghosts S} (written flushed target : S → Option (Lis
   J0 = journal_at pause was
 
   abbrev v : View
-  v = first_view l (began_with F l J0 left) origin
+  v = first_view l (began_with F l (has_hints plan.format) J0 left) origin
 
   rings_are : l.rings ≡ plan.threads
   rings_are = ap (λ (x : Layout). x.rings) table_is

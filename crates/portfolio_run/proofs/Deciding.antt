@@ -1,4 +1,5 @@
 -- The answer of the end that counts holds over the journal of all rings.
+use Rattle.sat_words.specs.Formats.{has_hints}
 use Rattle.std.proofs.Common.{◌≡◌, ◌∙◌, ◌+◌, ◌-◌, ◌<◌, ◌≤◌, ℕ, Bool, true, false, List, [], ◌∷◌, ◌++◌, map, length, get_or, append-nil, refl, sym, ap, subst, arith, inl, inr, eq-eqb}
 use Rattle.std.specs.Prelude.{◌≢◌, ◌⊎◌, All, Some, None, Option, if◌then◌else◌}
 use Rattle.std.specs.Option.{option_map}
@@ -75,7 +76,7 @@ use Rattle.portfolio_run.proofs.Summing.{added_many, all_small, small_of}
 -- the answer holds over this journal, whose first part the ruler wrote; the first of these says what is so if it is a fault of the
 -- proof, the second what is so of a lone ring at each other answer
 pub record IsDecided (plan : Plan) (F : FormulaData) (answer : Answer) (tally : List Counts) (Failed Calm : Type 0) (J : List Entry) : Type 0 where
-  pub stands : IsJournal plan.threads F.clauses J
+  pub stands : IsJournal plan.threads (has_hints plan.format) F.clauses J
   pub ruled : IsRuledThrough F (schedule_of plan) J
   pub held : IsHeld plan.threads plan.slots plan.round plan.conflicts F.clauses J tally
   pub rulings : List Ruling
@@ -116,7 +117,7 @@ module _ (p : Pause) (was : IsPaused p) (limit : ℕ) (l : Layout) (origin : Boo
 
   -- the table as it was opened
   abbrev v : View
-  v = first_view l (began_with F l J0 left) origin
+  v = first_view l (began_with F l (has_hints plan.format) J0 left) origin
 
   alike_there : IsAlike (starts_from v) (opening_by F.clauses (before_round J0 left) (Some beginning))
   alike_there = alike F J0 left was.is_left (start_glues (starts_at (first_cell l) left.start.items)) (first_cell l)
@@ -177,7 +178,7 @@ module _ (p : Pause) (was : IsPaused p) (limit : ℕ) (l : Layout) (origin : Boo
       let held : IsHeld plan.threads plan.slots plan.round plan.conflicts F.clauses J tally = inl (rested tally same none_more) in
       let never : (was.runs ≡ []) ⊎ (learned_by plan.threads J < plan.conflicts) = subst (λ (n : ℕ). (was.runs ≡ []) ⊎ (n < plan.conflicts)) (sym was.done_is ∙ sym (learned_before none_more)) (still_due plan.threads plan.conflicts was.runs was.past was.due) in
       subst (IsDecided plan F Memory tally Failed Calm) (sym g.journal_is) (record {
-        stands = journal_stands wide J0 beginning K threads o t;
+        stands = journal_stands wide J0 beginning K threads o t (has_hints plan.format) g.hinted;
         ruled = through_then p was K;
         held = held;
         rulings = was.rulings;
@@ -320,7 +321,7 @@ module _ (p : Pause) (was : IsPaused p) (limit : ℕ) (l : Layout) (origin : Boo
     unfolding ran_within
     decided Failed Calm answer stop holds rose calm =
         subst (IsDecided plan F answer tally Failed Calm) (sym g.journal_is)
-        (record { stands = journal_stands wide J0 beginning K plan.threads (starts_from v) t; ruled = through_then p was K; held = inr ran_within; rulings = was.rulings; again = ruled_over p was limit l K w s g; running = tt; stop = ap (λ (c : State). option_map (λ (y : Stop). y.kind) c.stop) (left_is p was limit l K w s g) ∙ stop; holds = holds; rose = rose; calm = calm })
+        (record { stands = journal_stands wide J0 beginning K plan.threads (starts_from v) t (has_hints plan.format) g.hinted; ruled = through_then p was K; held = inr ran_within; rulings = was.rulings; again = ruled_over p was limit l K w s g; running = tt; stop = ap (λ (c : State). option_map (λ (y : Stop). y.kind) c.stop) (left_is p was limit l K w s g) ∙ stop; holds = holds; rose = rose; calm = calm })
 
     -- if the ring is alone and its port can be used, no write has failed
     calm_at : (r : ℕ) (lt : r < plan.threads) → plan.threads ≡ 1 → length w.parts ≡ plan.threads → (fault : Bool) → TellsFaults w.parts fault → is_usable (port_at r lt).refused ≡ true → fault ≡ false
@@ -385,6 +386,7 @@ module _ (p : Pause) (was : IsPaused p) (limit : ℕ) (l : Layout) (origin : Boo
         going = together_unrefuted wide J0 beginning K plan.threads (starts_from v) t going_at;
         stood = stands wide J0 beginning K plan.threads (starts_from v) t;
         sound = g.sound;
+        hinted = g.hinted;
       })
 
     -- no stop stands
@@ -410,8 +412,8 @@ module _ (p : Pause) (was : IsPaused p) (limit : ℕ) (l : Layout) (origin : Boo
     answers_kind end.Memory = refl
 
     -- the start clauses lie one after another
-    laid_there : laid_out l (began_with F l J0 left) ≡ began_with F l J0 left
-    laid_there = ap (λ (ps : List (ℕ × List Literal)). begun_with F.clauses l (before_round J0 left) ps left.units.items) (placed_numbered (first_cell l) left.start.items)
+    laid_there : laid_out l (began_with F l (has_hints plan.format) J0 left) ≡ began_with F l (has_hints plan.format) J0 left
+    laid_there = ap (λ (ps : List (ℕ × List Literal)). record (began_with F l (has_hints plan.format) J0 left) { starts = starts_at (first_cell l) ps }) (placed_numbered (first_cell l) left.start.items)
 
     -- what the end of a ring whose stop stands says
     module _ (r : ℕ) (lt : r < plan.threads) where

@@ -1,18 +1,18 @@
 -- The ruler deletes some of the clauses that a table held.
-use Rattle.std.proofs.Common.{◌≡◌, ◌≢◌, ◌↔◌, ℕ, zero, suc, ◌<◌, Bool, true, false, not, List, [], ◌∷◌, ◌++◌, map, cond, length, get_or, refl, sym, ap, subst, ◌∙◌, inl, inr, arith, append_assoc, append-nil, filter, eqb}
+use Rattle.std.proofs.Common.{◌≡◌, ◌≢◌, ◌↔◌, ℕ, zero, suc, ◌<◌, ◌≤◌, Some, ⊎_elim, Bool, true, false, not, List, [], ◌∷◌, ◌++◌, map, cond, length, get_or, refl, sym, ap, subst, ◌∙◌, inl, inr, arith, append_assoc, append-nil, filter, eqb}
 use Rattle.std.specs.List.{All, Contains, list_any}
+use Rattle.std.specs.Option.{option_map}
 use Rattle.std.specs.Prelude.{⊤, Err}
-use Rattle.std.proofs.lemmas.Bool.{true≢false, cases_Bool, eqb-true, eq-eqb}
+use Rattle.std.proofs.lemmas.Bool.{true≢false, not-true, cases_Bool, eqb-true, eq-eqb}
 use Rattle.std.proofs.lemmas.List.{map-append}
 use Rattle.std.proofs.lemmas.List.Elements.{filter-append}
 use Rattle.sat_words.specs.Literal.{Literal, IsOn}
 use Rattle.sat_words.specs.Clause.{same_set, is_empty, clause_of, two_or_more}
-use Rattle.sat_words.specs.Formats.{has_hints}
 use Rattle.rup_model.specs.declared.journal.Entry.{Entry}
-use Rattle.rup_model.specs.Journal.{added, LogSound}
+use Rattle.rup_model.specs.Journal.{book, added, LogSound}
 use Rattle.rup_model.specs.NumberedLines.{NumberedLine}
 use Rattle.rup_model.proofs.Additions.{added-append}
-use Rattle.rup_model.proofs.Lists.{In, In_append_left, In_append_right, In_map, map_In, Contains_In, In_Contains}
+use Rattle.rup_model.proofs.Lists.{In, In_append, In_append_left, In_append_right, In_map, map_In, Contains_In, In_Contains}
 use Rattle.model_stack.specs.declared.stack.Fix.{Fix}
 use Rattle.io_edge.specs.Causes.{Rose}
 use Rattle.drat_text.specs.LineState.{LineState}
@@ -21,13 +21,15 @@ use Rattle.drat_text.specs.declared.stop.LineStop.{LineStop}
 use Rattle.drat_text.specs.declared.stop.LineStop.TheVariants.{ProofFault, Full, Memory}
 use Rattle.drat_text.specs.JournalText.{Origin}
 use Rattle.share_rule.specs.declared.rests.Rest.{Rest}
-use Rattle.simp_base.specs.WorkState.{WorkState, HaveOwnNumbers, resumed}
+use Rattle.simp_base.specs.WorkState.{WorkState, HaveOwnNumbers, resumed, unit_cells}
 use Rattle.simp_base.specs.Log.{Stands, HasLines}
 use Rattle.simp_base.specs.Resumed.{Resumes}
 use Rattle.simp_base.specs.Calls.{ruler_deletes}
 use Rattle.simp_base.specs.Causes.{HasOutputCause}
 use Rattle.simp_base.proofs.Filters.{In_filter, filter_In}
-use Rattle.simp_base.proofs.Lists.{All_In}
+use Rattle.simp_base.proofs.Lists.{All_In, In_All}
+use Rattle.ruler_simp.specs.Ruled.{HaveUnitNumbers}
+use Rattle.ruler_simp.proofs.UnitCells.{own_together, held_together, alone_together, held_after}
 use Rattle.simp_base.proofs.Resuming.{resumed_work, resumed_stands}
 use Rattle.simp_base.proofs.Steps.{nothing_more, stands_deleted, stands_failed, one_del, valid_del, fit_del, on_clause}
 use Rattle.portfolio_run.specs.Rulings.{deletions}
@@ -112,6 +114,16 @@ own_apart : (rs : List Rest) → Apart rs → HaveOwnNumbers (map cell_of rs)
 own_apart [] h = λ i j d lt within. absurd (omega arith)
 own_apart (r ∷ rs) h = own_more (cell_of r) (map cell_of rs) (λ y i. (let t = map_In cell_of rs y i in λ e. h.0 t.0 t.1 (e ∙ sym (ap (λ (z : ℕ × List Literal). z.0) t.2)))) (own_apart rs h.1)
 
+-- numbers of the front and of the back of a list
+own_front : (xs ys : List (ℕ × List Literal)) → HaveOwnNumbers (xs ++ ys) → HaveOwnNumbers xs
+own_front [] ys own = λ i j d lt within. absurd (omega arith)
+own_front (x ∷ xs) ys own = own_more x xs (λ y i. own_head x (xs ++ ys) own y (In_append_left xs ys y i)) (own_front xs ys (own_tail x (xs ++ ys) own))
+
+own_across : (xs ys : List (ℕ × List Literal)) → HaveOwnNumbers (xs ++ ys) → (x y : ℕ × List Literal) → In x xs → In y ys → x.0 ≢ y.0
+own_across [] ys own x y i j = absurd i
+own_across (z ∷ xs) ys own x y (inl e) j = λ q. own_head z (xs ++ ys) own y (In_append_right xs ys y j) (ap (λ (k : ℕ × List Literal). k.0) e ∙ q)
+own_across (z ∷ xs) ys own x y (inr i) j = own_across xs ys (own_tail z (xs ++ ys) own) x y i j
+
 apart_filter : (p : Rest → Bool) (rs : List Rest) → Apart rs → Apart (filter p rs)
 apart_filter p [] h = tt
 apart_filter p (r ∷ rs) h = by (p r) (apart_filter p rs h.1)
@@ -175,28 +187,57 @@ to_without : (ds : List Rest) (cs : List (ℕ × List Literal)) (n : ℕ) (c : L
 to_without [] cs n c h other = h
 to_without (x ∷ ds) cs n c h other = to_without ds (without x.number cs) n c ((without_others x.number cs n c).1 (h, other x (inl refl))) (λ d i. other d (inr i))
 
--- what is kept has other numbers than what is dropped
-kept_without : (rs : List Rest) → Apart rs → (n : ℕ) (c : List Literal) → Contains (kept_of rs) (n, c) → Contains (without_all (filter is_dropped rs) (map cell_of rs)) (n, c)
-kept_without rs apart n c h =
-    let t = map_In cell_of (filter (λ r. not (is_dropped r)) rs) (n, c) (Contains_In (kept_of rs) (n, c) h) in
-    let u = filter_In (λ r. not (is_dropped r)) rs t.0 t.1 in
-    let n_is : t.0.number ≡ n = ap (λ (z : ℕ × List Literal). z.0) t.2 in
-    to_without (filter is_dropped rs) (map cell_of rs) n c
-    (subst (Contains (map cell_of rs)) t.2 (In_Contains (map cell_of rs) (cell_of t.0) (In_map cell_of rs t.0 u.0)))
-    (λ d i e. (
-    let v = filter_In is_dropped rs d i in
-    let same : t.0 ≡ d = apart_one rs apart t.0 d u.0 v.0 (n_is ∙ e) in
-    true≢false (sym u.1 ∙ ap not (ap is_dropped same ∙ v.1))))
+-- a clause that is deleted has a number of its own
+dropped_number : (rs : List Rest) → Apart rs → (r d : Rest) → In r rs → is_dropped r ≡ false → In d (filter is_dropped rs) → r.number ≢ d.number
+dropped_number rs apart r d i stays j e =
+    let v = filter_In is_dropped rs d j in
+    true≢false (sym v.1 ∙ ap is_dropped (sym (apart_one rs apart r d i v.0 e)) ∙ stays)
 
-without_kept : (rs : List Rest) → (n : ℕ) (c : List Literal) → Contains (without_all (filter is_dropped rs) (map cell_of rs)) (n, c) → Contains (kept_of rs) (n, c)
-without_kept rs n c h =
-    let f = from_without (filter is_dropped rs) (map cell_of rs) n c h in
-    let t = map_In cell_of rs (n, c) (Contains_In (map cell_of rs) (n, c) f.0) in
-    let n_is : t.0.number ≡ n = ap (λ (z : ℕ × List Literal). z.0) t.2 in
-    elim (cases_Bool (is_dropped t.0)) as (λ _. Contains (kept_of rs) (n, c)) [
-      | inl gone ↦ absurd (f.1 t.0 (In_filter is_dropped rs t.0 t.1 gone) (sym n_is))
-      | inr stays ↦ subst (Contains (kept_of rs)) t.2 (In_Contains (kept_of rs) (cell_of t.0) (In_map cell_of (filter (λ r. not (is_dropped r)) rs) t.0 (In_filter (λ r. not (is_dropped r)) rs t.0 t.1 (ap not stays))))
-    ]
+module _ (rs : List Rest) (us : List (Literal × ℕ)) (own : HaveOwnNumbers (map cell_of rs ++ unit_cells us)) where
+  abbrev cells : List (ℕ × List Literal)
+  cells = map cell_of rs ++ unit_cells us
+
+  abbrev kept : List (ℕ × List Literal)
+  kept = kept_of rs ++ unit_cells us
+
+  apart_rests : Apart rs
+  apart_rests = apart_own rs (own_front (map cell_of rs) (unit_cells us) own)
+
+  -- what is kept has other numbers than what is dropped
+  kept_without : (n : ℕ) (c : List Literal) → Contains kept (n, c) → Contains (without_all (filter is_dropped rs) cells) (n, c)
+  kept_without n c h = ⊎_elim of_rest of_unit (In_append (kept_of rs) (unit_cells us) (n, c) (Contains_In kept (n, c) h))
+    where
+      of_rest : In (n, c) (kept_of rs) → Contains (without_all (filter is_dropped rs) cells) (n, c)
+      of_rest i =
+          let t = map_In cell_of (filter (λ r. not (is_dropped r)) rs) (n, c) i in
+          let u = filter_In (λ r. not (is_dropped r)) rs t.0 t.1 in
+          to_without (filter is_dropped rs) cells n c
+          (In_Contains cells (n, c) (In_append_left (map cell_of rs) (unit_cells us) (n, c) (subst (λ (z : ℕ × List Literal). In z (map cell_of rs)) t.2 (In_map cell_of rs t.0 u.0))))
+          (λ d j e. dropped_number rs apart_rests t.0 d u.0 (not-true (is_dropped t.0) u.1) j (ap (λ (z : ℕ × List Literal). z.0) t.2 ∙ e))
+
+      of_unit : In (n, c) (unit_cells us) → Contains (without_all (filter is_dropped rs) cells) (n, c)
+      of_unit i =
+          to_without (filter is_dropped rs) cells n c (In_Contains cells (n, c) (In_append_right (map cell_of rs) (unit_cells us) (n, c) i))
+          (λ d j e. own_across (map cell_of rs) (unit_cells us) own (cell_of d) (n, c) (In_map cell_of rs d (filter_In is_dropped rs d j).0) i (sym e))
+
+  without_kept : (n : ℕ) (c : List Literal) → Contains (without_all (filter is_dropped rs) cells) (n, c) → Contains kept (n, c)
+  without_kept n c h =
+      let f = from_without (filter is_dropped rs) cells n c h in
+      ⊎_elim (of_rest f.1) (λ (i : In (n, c) (unit_cells us)). In_Contains kept (n, c) (In_append_right (kept_of rs) (unit_cells us) (n, c) i)) (In_append (map cell_of rs) (unit_cells us) (n, c) (Contains_In cells (n, c) f.0))
+    where
+      of_rest : ((d : Rest) → In d (filter is_dropped rs) → n ≢ d.number) → In (n, c) (map cell_of rs) → Contains kept (n, c)
+      of_rest others i =
+          let t = map_In cell_of rs (n, c) i in
+          let n_is : t.0.number ≡ n = ap (λ (z : ℕ × List Literal). z.0) t.2 in
+          elim (cases_Bool (is_dropped t.0)) as (λ _. Contains kept (n, c)) [
+            | inl gone ↦ absurd (others t.0 (In_filter is_dropped rs t.0 t.1 gone) (sym n_is))
+            | inr stays ↦ In_Contains kept (n, c) (In_append_left (kept_of rs) (unit_cells us) (n, c) (subst (λ (z : ℕ × List Literal). In z (kept_of rs)) t.2 (In_map cell_of (filter (λ r. not (is_dropped r)) rs) t.0 (In_filter (λ r. not (is_dropped r)) rs t.0 t.1 (ap not stays)))))
+          ]
+
+pub two_long : (c : List Literal) → two_or_more c ≡ true → 2 ≤ length c
+two_long [] h = absurd (true≢false (sym h))
+two_long (x ∷ []) h = absurd (true≢false (sym h))
+two_long (x ∷ y ∷ c) h = omega arith
 
 -- Journals
 
@@ -209,7 +250,7 @@ added_same J ns = added-append J (deletions ns) ∙ ap (λ G. added J ++ G) (add
 
 -- Deletions, one after another
 
-module _ (F : List (List Literal)) (vars : ℕ) (us : List Literal) (stack : List Fix) (old : LineState) (J : List Entry) where
+module _ (F : List (List Literal)) (vars : ℕ) (us : List (Literal × ℕ)) (stack : List Fix) (old : LineState) (J : List Entry) where
   abbrev o : Origin
   o = record { formula = F; journal = J; output = old }
 
@@ -230,14 +271,17 @@ module _ (F : List (List Literal)) (vars : ℕ) (us : List Literal) (stack : Lis
       took.2)
 
   module _ (rs : List Rest) (left : AreLeftAfter F vars rs us stack old J) (unspent : old.spent ≡ false) where
+    abbrev all_cells : List (ℕ × List Literal)
+    all_cells = cells rs us left.0.numbers
+
     apart : Apart rs
-    apart = apart_own rs left.0.numbers
+    apart = apart_rests rs us left.0.numbers
 
-    first : Stands o [] (at (map cell_of rs) old)
-    first = resumed_stands F vars (map cell_of rs) us stack old unspent J left.0
+    first : Stands o [] (at all_cells old)
+    first = resumed_stands F vars all_cells us stack old unspent J left.0
 
-    held_all : (d : Rest) → In d rs → Contains (map cell_of rs) (cell_of d)
-    held_all d i = In_Contains (map cell_of rs) (cell_of d) (In_map cell_of rs d i)
+    held_all : (d : Rest) → In d rs → Contains all_cells (cell_of d)
+    held_all d i = In_Contains all_cells (cell_of d) (In_append_left (map cell_of rs) (unit_cells us) (cell_of d) (In_map cell_of rs d i))
 
     long_all : (d : Rest) → In d rs → two_or_more d.clause ≡ true
     long_all d i = All_In (λ r. two_or_more r.clause ≡ true) rs d left.1 i
@@ -246,10 +290,10 @@ module _ (F : List (List Literal)) (vars : ℕ) (us : List Literal) (stack : Lis
 
     module _ (new : LineState) (took : TookLines old (filter is_dropped rs) new) where
       abbrev rest : List (ℕ × List Literal)
-      rest = without_all (filter is_dropped rs) (map cell_of rs)
+      rest = without_all (filter is_dropped rs) all_cells
 
       stands_after : Stands o (deletions (dropped_of rs)) (at rest new)
-      stands_after = stand (filter is_dropped rs) (map cell_of rs) old new [] first unspent (apart_filter is_dropped rs apart) (λ d i. held_all d (filter_In is_dropped rs d i).0) (λ d i. long_all d (filter_In is_dropped rs d i).0) took
+      stands_after = stand (filter is_dropped rs) all_cells old new [] first unspent (apart_filter is_dropped rs apart) (λ d i. held_all d (filter_In is_dropped rs d i).0) (λ d i. long_all d (filter_In is_dropped rs d i).0) took
 
       pub lines_after : HasLines o (deletions (dropped_of rs)) vars new
       lines_after = stands_after.lines
@@ -257,23 +301,34 @@ module _ (F : List (List Literal)) (vars : ℕ) (us : List Literal) (stack : Lis
       own_kept : HaveOwnNumbers (kept_of rs)
       own_kept = own_apart (filter (λ r. not (is_dropped r)) rs) (apart_filter (λ r. not (is_dropped r)) rs apart)
 
-      pub resumes_after : has_hints old.format ≡ false → Resumes F vars (kept_of rs) us stack new (J ++ deletions (dropped_of rs))
-      resumes_after plain =
+      pub resumes_after : Resumes F vars (kept_of rs ++ unit_cells us) us stack new (J ++ deletions (dropped_of rs))
+      resumes_after =
           let s = stands_after in
-          let same = added_same J (dropped_of rs) in record {
+          let same = added_same J (dropped_of rs) in
+          let now = book F (J ++ deletions (dropped_of rs)) in
+          let own = left.0.numbers in
+          let numbered : HaveUnitNumbers now us = In_All (λ (u : Literal × ℕ). now.clause u.1 ≡ Some (u.0 ∷ [])) us (λ u i.
+          s.alone u.1 u.0 (kept_without rs us own u.1 (u.0 ∷ []) (All_In (λ (v : Literal × ℕ). Contains (kept_of rs ++ unit_cells us) (v.1, v.0 ∷ [])) us u (held_after (kept_of rs) us) i))) in
+          let held : (n : ℕ) (c : List Literal) → Contains (kept_of rs) (n, c) → option_map clause_of (now.clause n) ≡ Some c = λ n c h.
+          s.held n c (kept_without rs us own n c (In_Contains (kept_of rs ++ unit_cells us) (n, c) (In_append_left (kept_of rs) (unit_cells us) (n, c) (Contains_In (kept_of rs) (n, c) h)))) in
+          let long : All (λ (x : ℕ × List Literal). 2 ≤ length x.1) (kept_of rs) = In_All (λ (x : ℕ × List Literal). 2 ≤ length x.1) (kept_of rs) (λ x i.
+          let t = map_In cell_of (filter (λ r. not (is_dropped r)) rs) x i in
+          subst (λ (z : ℕ × List Literal). 2 ≤ length z.1) t.2 (two_long t.0.clause (long_all t.0 (filter_In (λ r. not (is_dropped r)) rs t.0 t.1).0))) in
+          record {
             sound = s.sound;
             hinted = s.hinted;
             going = subst (λ (G : List (List Literal)). list_any is_empty (F ++ G) ≡ false) (sym same) left.0.going;
-            numbers = own_kept;
-            held = λ n c i. s.held n c (kept_without rs apart n c i);
-            all = λ n c is part. elim (s.all n c is) as (λ _. Contains (kept_of rs) (n, clause_of c)) [
-              | inl i ↦ without_kept rs n (clause_of c) i
+            numbers = own_together now (kept_of rs) us numbered left.0.distinct held long own_kept;
+            held = held_together now (kept_of rs) us numbered left.0.distinct held long;
+            all = λ n c is part. elim (s.all n c is) as (λ _. Contains (kept_of rs ++ unit_cells us) (n, clause_of c)) [
+              | inl i ↦ without_kept rs us own n (clause_of c) i
               | inr passed ↦ absurd (true≢false (sym part ∙ passed.idle))
             ];
+            alone = alone_together now (kept_of rs) us numbered left.0.distinct held long;
             told = s.told;
             every = λ l t. left.0.every l (subst (λ (G : List (List Literal)). list_any (same_set (l ∷ [])) (F ++ G) ≡ true) same t);
             distinct = left.0.distinct;
-            units_held = λ h. absurd (true≢false (sym h ∙ ap has_hints (took_format (filter is_dropped rs) old new took) ∙ plain));
+            units_held = held_after (kept_of rs) us;
             on = subst (λ (G : List (List Literal)). All (All (IsOn vars)) (F ++ G)) (sym same) left.0.on;
             stack_on = left.0.stack_on;
             entries = s.lines.entries;
@@ -289,8 +344,8 @@ module _ (F : List (List Literal)) (vars : ℕ) (us : List Literal) (stack : Lis
       apart_both : Apart (ds ++ es)
       apart_both = subst Apart front_of (apart_filter is_dropped rs apart)
 
-      stands_front : Stands o (deletions (map (λ r. r.number) ds)) (at (without_all ds (map cell_of rs)) middle)
-      stands_front = stand ds (map cell_of rs) old middle [] first unspent (apart_front ds es apart_both) (λ d i. held_all d (among d (In_append_left ds es d i))) (λ d i. long_all d (among d (In_append_left ds es d i))) took
+      stands_front : Stands o (deletions (map (λ r. r.number) ds)) (at (without_all ds all_cells) middle)
+      stands_front = stand ds all_cells old middle [] first unspent (apart_front ds es apart_both) (λ d i. held_all d (among d (In_append_left ds es d i))) (λ d i. long_all d (among d (In_append_left ds es d i))) took
 
       pub lines_front : HasLines o (deletions (map (λ r. r.number) ds)) vars middle
       lines_front = stands_front.lines
@@ -306,14 +361,14 @@ module _ (F : List (List Literal)) (vars : ℕ) (us : List Literal) (stack : Lis
         r_in : In r rs
         r_in = among r (In_append_right ds es r (subst (In r) (sym rest_is) (inl refl)))
 
-        still : Contains (without_all ds (map cell_of rs)) (cell_of r)
-        still = to_without ds (map cell_of rs) r.number r.clause (held_all r r_in) (apart_next ds r others (subst (λ xs. Apart (ds ++ xs)) rest_is apart_both))
+        still : Contains (without_all ds all_cells) (cell_of r)
+        still = to_without ds all_cells r.number r.clause (held_all r r_in) (apart_next ds r others (subst (λ xs. Apart (ds ++ xs)) rest_is apart_both))
 
         on_r : All (IsOn vars) r.clause
-        on_r = on_clause (at (map cell_of rs) old) (resumed_work F vars (map cell_of rs) us stack old J left.0) r.number r.clause (held_all r r_in)
+        on_r = on_clause (at all_cells old) (resumed_work F vars all_cells us stack old J left.0) r.number r.clause (held_all r r_in)
 
         abbrev w : WorkState
-        w = at (without_all ds (map cell_of rs)) middle
+        w = at (without_all ds all_cells) middle
 
         abbrev mine : List Entry
         mine = deletions (map (λ r. r.number) ds)
@@ -343,11 +398,11 @@ front_cause rs old new stop t =
       | inr n ↦ stopped_for old t.middle new (deletion_of t.middle n.0) stop same n.3
     ]
 
-pub front_sound : (F : List (List Literal)) (vars : ℕ) (us : List Literal) (stack : List Fix) (old : LineState) (J : List Entry) (rs : List Rest) → AreLeftAfter F vars rs us stack old J → old.spent ≡ false
+pub front_sound : (F : List (List Literal)) (vars : ℕ) (us : List (Literal × ℕ)) (stack : List Fix) (old : LineState) (J : List Entry) (rs : List Rest) → AreLeftAfter F vars rs us stack old J → old.spent ≡ false
     → (new : LineState) (stop : LineStop) (t : TookFront rs old new stop) → LogSound F (J ++ deletions (map (λ r. r.number) t.front))
 front_sound F vars us stack old J rs left unspent new stop t = sound_front F vars us stack old J rs left unspent t.front t.rest t.front_of t.middle t.took
 
-pub front_lines : (F : List (List Literal)) (vars : ℕ) (us : List Literal) (stack : List Fix) (old : LineState) (J : List Entry) (rs : List Rest) → AreLeftAfter F vars rs us stack old J → old.spent ≡ false
+pub front_lines : (F : List (List Literal)) (vars : ℕ) (us : List (Literal × ℕ)) (stack : List Fix) (old : LineState) (J : List Entry) (rs : List Rest) → AreLeftAfter F vars rs us stack old J → old.spent ≡ false
     → (new : LineState) (stop : LineStop) (t : TookFront rs old new stop) → HasLines (record { formula = F; journal = J; output = old }) (deletions (map (λ r. r.number) t.front)) vars new
 front_lines F vars us stack old J rs left unspent new stop t = elim t.cause as (λ _. HasLines (record { formula = F; journal = J; output = old }) (deletions (map (λ r. r.number) t.front)) vars new) [
   | inl m ↦ subst (HasLines (record { formula = F; journal = J; output = old }) (deletions (map (λ r. r.number) t.front)) vars) (sym m.1) (lines_front F vars us stack old J rs left unspent t.front t.rest t.front_of t.middle t.took)

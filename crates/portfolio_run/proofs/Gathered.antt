@@ -1,14 +1,19 @@
 -- What the core of a closed table says, from which the rings began a round where they had rested.
+use Rattle.sat_words.specs.Formats.{has_hints}
 use Rattle.io_edge.specs.declared.edge.Sink.{Ghosts}
-use Rattle.std.proofs.Common.{◌≡◌, ◌∙◌, ◌^◌, ◌<◌, ◌≤◌, ℕ, List, ◌++◌, length, Ok, Err, sym, ap, subst, refl}
+use Rattle.std.proofs.Common.{◌≡◌, ◌∙◌, ◌^◌, ◌<◌, ◌≤◌, ℕ, true, List, [], ◌++◌, length, Ok, Err, sym, ap, subst, refl}
 use Rattle.std.specs.Prelude.{◌≢◌, All, Option, Bool}
 use Rattle.sat_words.specs.Literal.{Literal, IsOn}
 use Rattle.sat_words.specs.FormulaData.{FormulaData}
 use Rattle.rup_model.specs.declared.journal.TheConstants.{RULER_RING}
 use Rattle.rup_model.specs.declared.journal.Entry.{Entry}
 use Rattle.rup_model.specs.Journal.{ring_of, lines, LogSound}
+use Rattle.rup_model.specs.NumberedLines.{IsHinted, AreHinted}
+use Rattle.rup_model.proofs.Sequences.{each_both}
 use Rattle.share_core.specs.declared.part.CoreOpening.{CoreOpening}
 use Rattle.share_core.specs.Sound.{Sound, placed}
+use Rattle.share_core.specs.State.{later}
+use Rattle.share_core.proofs.Frames.{later_whole}
 use Rattle.share_core.proofs.Leaving.{left_sound}
 use Rattle.core_rounds.specs.InRounds.{round_limit}
 use Rattle.share_rule.specs.declared.Layout.{Layout}
@@ -32,12 +37,13 @@ use Rattle.portfolio_run.specs.Reached.{Records}
 use Rattle.portfolio_run.specs.Room.{layout_of}
 use Rattle.portfolio_run.specs.Ruled.{schedule_of, IsRuled, IsRuledThrough}
 use Rattle.portfolio_run.specs.Seats.{IsSameTable}
+use Rattle.portfolio_run.proofs.Hinting.{hinted_begun}
 use Rattle.portfolio_run.proofs.Placing.{same_rest}
 use Rattle.portfolio_run.proofs.Rulers.{front_stays}
 
 -- what the rings began with, once their round had begun
-abbrev pub began_with : FormulaData → Layout → List Entry → Simplified → CoreOpening
-began_with F l J0 left = begun_with F.clauses l (before_round J0 left) left.start.items left.units.items
+abbrev pub began_with : FormulaData → Layout → Bool → List Entry → Simplified → CoreOpening
+began_with F l hinted J0 left = begun_with F.clauses l hinted (before_round J0 left) left.start.items left.units.items
 
 -- the journal after which the rings rested
 abbrev pub journal_at : (p : Pause) → IsPaused p → List Entry
@@ -87,20 +93,21 @@ pub record GoesOn (p : Pause) (was : IsPaused p) (limit : ℕ) (l : Layout) (K :
   pub depth_is : l.depth ≡ p.plan.slots
   pub lemmas_are : l.conflicts ≡ limit
   pub layout_is : w.layout ≡ l
-  pub opening_is : s.core.opening ≡ began_with p.formula l (journal_at p was) p.left
+  pub opening_is : s.core.opening ≡ began_with p.formula l (has_hints p.plan.format) (journal_at p was) p.left
   pub journal_is : s.core.journal ≡ before_round (journal_at p was) p.left ++ K
   pub of_rings : All (λ e. ring_of e < p.plan.threads) K
   pub wrote : (r : ℕ) → r < p.plan.threads → (s.core.part r).wrote ≡ placed r (length s.core.opening.journal) K
   pub sound : LogSound p.formula.clauses (before_round (journal_at p was) p.left ++ K)
+  pub hinted : has_hints p.plan.format ≡ true → AreHinted p.formula.clauses (before_round (journal_at p was) p.left ++ K)
 
 module _ (p : Pause) (was : IsPaused p) (limit : ℕ) (l : Layout) (origin : BookOrigin)
     (on : All (All (IsOn p.formula.vars)) p.formula.clauses) (some_ring : 1 ≤ p.plan.threads) (few_rings : p.plan.threads ≤ RULER_RING)
     (limit_is : limit ≡ round_limit p.plan.round p.plan.conflicts p.done) (table_is : l ≡ layout_of p.plan p.left.vars limit)
-    (w : View) (same : IsSameTable (first_view l (began_with p.formula l (journal_at p was) p.left) origin) w) (s : Seen w) where
+    (w : View) (same : IsSameTable (first_view l (began_with p.formula l (has_hints p.plan.format) (journal_at p was) p.left) origin) w) (s : Seen w) where
   abbrev J0 : List Entry
   J0 = journal_at p was
 
-  opening_is : s.core.opening ≡ began_with p.formula l J0 p.left
+  opening_is : s.core.opening ≡ began_with p.formula l (has_hints p.plan.format) J0 p.left
   opening_is = sym s.opening ∙ same.opening
 
   rings_are : l.rings ≡ p.plan.threads
@@ -130,6 +137,16 @@ module _ (p : Pause) (was : IsPaused p) (limit : ℕ) (l : Layout) (origin : Boo
   log_sound : LogSound p.formula.clauses (before_round J0 p.left ++ entries)
   log_sound = subst (LogSound p.formula.clauses) journal_is (subst (λ (G : List (List Literal)). LogSound G s.core.journal) (ap (λ (o : CoreOpening). o.formula) opening_is) sound.log.log)
 
+  -- what the rings started from had hints, and so has what they wrote
+  hinted : has_hints p.plan.format ≡ true → AreHinted p.formula.clauses (before_round J0 p.left ++ entries)
+  hinted q =
+      let o : CoreOpening = s.core.opening in
+      let formula_is : o.formula ≡ p.formula.clauses = ap (λ (x : CoreOpening). x.formula) opening_is in
+      let before : AreHinted o.formula o.journal = subst (λ (x : CoreOpening). AreHinted x.formula x.journal) (sym opening_is) (hinted_begun p.formula.clauses J0 (round_start p.left) (was.hinted q)) in
+      let whole : AreHinted o.formula s.core.journal = subst (AreHinted o.formula) (later_whole o s.core.journal sound.log)
+      (each_both (IsHinted o.formula) [] o.journal (later o s.core.journal) before (sound.log.hints (ap (λ (x : CoreOpening). x.hinted) opening_is ∙ q))) in
+      subst (λ (y : List (List Literal) × List Entry). AreHinted y.0 y.1) (λ i. (formula_is i, journal_is i)) whole
+
   pub goes_on : GoesOn p was limit l entries w s
   goes_on = record {
     on = on;
@@ -147,10 +164,11 @@ module _ (p : Pause) (was : IsPaused p) (limit : ℕ) (l : Layout) (origin : Boo
     of_rings = of_rings;
     wrote = wrote;
     sound = log_sound;
+    hinted = hinted;
   }
 
 module _ {S : Type 0} {d : Ghosts S} (written flushed target : S → Option (List ℕ)) (faults : S → ℕ) (sink : S) (plan : Plan) (F : FormulaData) (J0 : List Entry) (left : Simplified) (l : Layout) (origin : BookOrigin)
-    (few : left.vars ≤ 2 ^ 30) (vars_are : l.vars ≡ left.vars) (w : View) (same : IsSameTable (first_view l (began_with F l J0 left) origin) w) (J : List Entry) where
+    (few : left.vars ≤ 2 ^ 30) (vars_are : l.vars ≡ left.vars) (w : View) (same : IsSameTable (first_view l (began_with F l (has_hints plan.format) J0 left) origin) w) (J : List Entry) where
   -- the book has come to the journal
   pub records : (b : Book S d) (fault : Bool) → origin.format ≡ plan.format → origin.faults ≡ faults sink → origin.target ≡ target sink
       → StandsFor account_of (IsLogOf written flushed target faults) b w.origin w.layout w.opening J fault → Records written flushed target faults plan.format sink F.clauses J b

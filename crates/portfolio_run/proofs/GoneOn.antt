@@ -6,10 +6,12 @@ use Rattle.std.proofs.lemmas.List.Elements.{All-append}
 use Rattle.io_edge.specs.Causes.{Rose}
 use Rattle.sat_words.specs.Literal.{Literal, IsOn}
 use Rattle.sat_words.specs.Clause.{is_empty}
+use Rattle.sat_words.specs.Formats.{has_hints}
 use Rattle.sat_words.specs.FormulaData.{FormulaData}
 use Rattle.sat_words.specs.declared.shared.TheConstants.{MAX_ENTRIES}
 use Rattle.rup_model.specs.declared.journal.Entry.{Entry}
 use Rattle.rup_model.specs.Journal.{lines, added, formula_book, LogSound}
+use Rattle.rup_model.specs.NumberedLines.{AreHinted}
 use Rattle.rup_model.specs.Opening.{is_rulers}
 use Rattle.rup_model.proofs.Additions.{added-append}
 use Rattle.model_stack.specs.declared.stack.Fix.{Fix}
@@ -21,7 +23,7 @@ use Rattle.drat_text.specs.declared.stop.LineStop.{LineStop}
 use Rattle.drat_text.specs.declared.stop.LineStop.TheVariants as line_stop
 use Rattle.log_book.specs.Books.{begun, IsFilled, IsCutOff}
 use Rattle.share_rule.specs.declared.rests.Rest.{Rest}
-use Rattle.simp_base.specs.WorkState.{WorkState, known, resumed}
+use Rattle.simp_base.specs.WorkState.{WorkState, known, resumed, unit_cells}
 use Rattle.simp_base.specs.Log.{HasLines, Stands}
 use Rattle.simp_base.specs.Causes.{HasOutputCause}
 use Rattle.ruler_simp.specs.declared.ruling.Outcome.{Outcome}
@@ -43,6 +45,7 @@ use Rattle.portfolio_run.specs.Ruled.{schedule_of}
 use Rattle.portfolio_run.specs.Rulings.{Ruling, deletions, work_after, AreDropped, IsRuling}
 use Rattle.portfolio_run.specs.Solved.{IsReached}
 use Rattle.portfolio_run.proofs.Appending.{filled_on, cut_off_on}
+use Rattle.portfolio_run.proofs.Hinting.{hinted_deleted, simplified_format}
 use Rattle.portfolio_run.proofs.Passed.{HavePassed}
 use Rattle.portfolio_run.proofs.Pausing.{deletions_rulers, deletions_add, dropped_front, began, through, stood_on, rests}
 use Rattle.portfolio_run.proofs.Resting.{IsResting, journal_stands, no_memory, no_entry, failed, refuted as none_left}
@@ -60,8 +63,8 @@ pub record ComesTo (plan : Plan) (F : FormulaData) (answer : Answer) (tally : Li
   pub cut : new.spent ≡ true → IsCutOff (begun F.clauses first) journal vars new
 
 module _ (plan : Plan) (F : FormulaData) (vars : ℕ) (stack : List Fix) (tally : List Counts) (done : ℕ) (x : RoundRun) (xs : List RoundRun) (J : List Entry) (h : HavePassed plan F vars stack tally done x xs J) (more : done < plan.conflicts)
-    (held : List Rest) (units : List Literal) (dropped : AreDropped x (dropped_of held))
-    (first old : LineState) (filled : IsFilled (begun F.clauses first) J old) (left : AreLeftAfter F.clauses vars held units stack old J) where
+    (held : List Rest) (units : List (Literal × ℕ)) (dropped : AreDropped x (dropped_of held))
+    (first old : LineState) (format_is : first.format ≡ plan.format) (filled : IsFilled (begun F.clauses first) J old) (left : AreLeftAfter F.clauses vars held units stack old J) where
   -- the output has not failed since the first line
   quiet : old.faults ≡ first.faults
   quiet = filled.text.quiet
@@ -94,7 +97,7 @@ module _ (plan : Plan) (F : FormulaData) (vars : ℕ) (stack : List Fix) (tally 
     resting_early : IsResting plan F tally None short
     resting_early =
         rests plan F vars stack tally done x xs J h more vars (omega arith) h.few deleted (deletions_rulers w.front) (none_on vars w.front)
-        (w.sound J left) h.rulings
+        (w.sound J left) (λ q. hinted_deleted F.clauses J w.front (h.hinted q)) h.rulings
         (inl (w.front, front_dropped, refl, refl, h.ruled))
 
     lines_early : HasLines (record { formula = F.clauses; journal = J; output = old }) deleted vars new
@@ -136,7 +139,7 @@ module _ (plan : Plan) (F : FormulaData) (vars : ℕ) (stack : List Fix) (tally 
 
     -- what it went on with
     abbrev start : WorkState
-    start = resumed vars (kept_of held) units stack w.middle
+    start = resumed vars (kept_of held ++ unit_cells units) units stack w.middle
 
     abbrev ruling : Ruling
     ruling = record { dropped = ns; start = start; work = w.ruled.work; result = run_of result; entries = entries }
@@ -149,7 +152,7 @@ module _ (plan : Plan) (F : FormulaData) (vars : ℕ) (stack : List Fix) (tally 
     I = J ++ written
 
     resumes : ResumesAs F.clauses start (J ++ gone)
-    resumes = w.resumes J left
+    resumes = (units, refl, w.resumes J left)
 
     stands : Stands (record { formula = F.clauses; journal = J ++ gone; output = w.middle }) entries w.ruled.work
     stands = w.ruled.stands (J ++ gone) resumes
@@ -162,7 +165,7 @@ module _ (plan : Plan) (F : FormulaData) (vars : ℕ) (stack : List Fix) (tally 
       dropped = dropped;
       vars_are = h.vars_are;
       stack_is = h.stack_is;
-      begins = refl;
+      begins = (refl, refl);
       unspent = w.unspent;
       resumes = subst (λ (K : List Entry). ResumesAs F.clauses start (K ++ gone)) h.rounds.6 resumes;
       ran = w.ruled.ran;
@@ -180,18 +183,26 @@ module _ (plan : Plan) (F : FormulaData) (vars : ℕ) (stack : List Fix) (tally 
     sound_there : LogSound F.clauses I
     sound_there = subst (LogSound F.clauses) same_journal stands.sound
 
-    resting : IsResting plan F tally None I
-    resting =
-        rests plan F vars stack tally done x xs J h more wide w.ruled.more few_wide written written_rulers written_on sound_there (ruling ∷ h.rulings)
-        (inr (ruling, h.rulings, refl, is_ruling, refl, (λ other. absurd (other refl)), h.ruled))
-
-    -- The output
-
+    -- the output before it worked on
     filled_between : IsFilled (begun F.clauses first) (J ++ gone) w.middle
     filled_between = filled_on F.clauses first old w.middle J gone filled vars (w.lines J left) w.unspent (spelled_on ns)
 
     quiet_between : w.middle.faults ≡ first.faults
     quiet_between = filled_between.text.quiet
+
+    -- the output of the work spells its lines as the plan says
+    format_there : w.ruled.work.output.format ≡ plan.format
+    format_there = simplified_format (schedule_of plan) start w.ruled.work (run_of result) entries w.ruled.ran ∙ filled_between.text.format ∙ format_is
+
+    hinted_there : has_hints plan.format ≡ true → AreHinted F.clauses I
+    hinted_there q = subst (AreHinted F.clauses) same_journal (stands.hinted (ap has_hints format_there ∙ q))
+
+    resting : IsResting plan F tally None I
+    resting =
+        rests plan F vars stack tally done x xs J h more wide w.ruled.more few_wide written written_rulers written_on sound_there hinted_there (ruling ∷ h.rulings)
+        (inr (ruling, h.rulings, refl, is_ruling, refl, (λ other. absurd (other refl)), h.ruled))
+
+    -- The output
 
     has_lines : HasLines (record { formula = F.clauses; journal = J ++ gone; output = w.middle }) entries wide new
     has_lines = subst (HasLines (record { formula = F.clauses; journal = J ++ gone; output = w.middle }) entries wide) (sym w.ruled.output) stands.lines
@@ -250,6 +261,7 @@ module _ (plan : Plan) (F : FormulaData) (vars : ℕ) (stack : List Fix) (tally 
             opens = a.opens;
             starts = a.starts;
             units = a.units;
+            numbered = a.numbered;
             lifts = subst (Lifts F.clauses (left_clauses s)) (sym a.lifts.stack) (lifts_along F.clauses (known start) (left_clauses s) stack a.lifts.fixes lifts a.lifts.lifts);
             on = a.on;
           }
@@ -278,6 +290,7 @@ module _ (plan : Plan) (F : FormulaData) (vars : ℕ) (stack : List Fix) (tally 
         few = (let few = few_wide in let same = vars_are in omega (arith, few, same));
         stood = subst (λ (n : ℕ). StandsInRounds n plan.threads F.clauses I) (sym vars_are) (stood_on plan F vars stack tally done x xs J h more wide w.ruled.more few_wide written written_rulers written_on);
         sound = sound_there;
+        hinted = hinted_there;
         is_left = is_left;
         filled = filled_there left_there.1.unspent;
         quiet = left_there.1.quiet ∙ quiet_between;

@@ -11,6 +11,7 @@ use Rattle.rup_model.specs.declared.journal.Round.{Round as RoundStart}
 use Rattle.rup_model.specs.declared.journal.Entry.{Entry}
 use Rattle.rup_model.specs.declared.journal.Entry.TheVariants.{Add, Del, Reduce, Round}
 use Rattle.rup_model.specs.Journal.{formula_book, ring_of, added, fresh, LogSound, IsSpaced}
+use Rattle.rup_model.specs.NumberedLines.{AreHinted}
 use Rattle.rup_model.specs.Opening.{Opening, start_clauses, is_rulers, adds_unit, is_new, IsNew}
 use Rattle.rup_model.specs.Windows.{begins_round, since_round, opening_by, round_opening, IsNewInRound, IsSpacedInRound}
 use Rattle.rup_model.proofs.Additions.{added-append}
@@ -161,13 +162,14 @@ module _ (vars rings : ℕ) (F : List (List Literal)) where
       spaced = each_both IsSpacedInRound [] I K h.spaced (alone_in_round J x SpacedBy K none_begins spaced_here);
     }
 
--- a log that is sound is then one of a run
-pub journal_of_rounds : (vars rings : ℕ) (F : List (List Literal)) (J : List Entry) → vars ≤ 2 ^ 30 → All (All (IsOn vars)) F → LogSound F J → StandsInRounds vars rings F J → IsJournal rings F J
-journal_of_rounds vars rings F J few on sound h = record {
+-- a log that is sound, and shown by its hints if it has them, is then one of a run
+pub journal_of_rounds : (vars rings : ℕ) (with_hints : Bool) (F : List (List Literal)) (J : List Entry) → vars ≤ 2 ^ 30 → All (All (IsOn vars)) F → LogSound F J → (with_hints ≡ true → AreHinted F J) → StandsInRounds vars rings F J → IsJournal rings with_hints F J
+journal_of_rounds vars rings with_hints F J few on sound hinted h = record {
   fits = sound.fits;
   accepted = sound.accepted;
   last = sound.empty_last;
   spelled = spelled_from vars few (formula_book F) J (formula_on vars F on) h.on;
+  hinted = hinted;
   of_rounds = h.of_rounds;
   plain = h.plain;
   begins = h.begins;

@@ -11,6 +11,7 @@ mod Finishing
 mod Gathered
 mod Gathering
 mod GoneOn
+mod Hinting
 mod InRounds
 mod Interleaving
 mod Keeping
@@ -34,6 +35,7 @@ mod Settled
 mod Settling
 mod Spelling
 mod Summing
+mod UnitPairs
 mod Tabling
 mod Tallies
 mod Walks

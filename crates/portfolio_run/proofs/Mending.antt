@@ -23,7 +23,7 @@ use Rattle.share_rule.specs.Tight.{numbered}
 use Rattle.ring_port.specs.PortState.{Holding}
 use Rattle.ring_port.specs.Log.{start_of}
 use Rattle.ring_pass.specs.RingState.{holding_of}
-use Rattle.simp_base.specs.WorkState.{IsFixOn, lists, unit_clauses}
+use Rattle.simp_base.specs.WorkState.{IsFixOn, lists, unit_clauses, unit_lits}
 use Rattle.ruler_simp.specs.declared.ruling.Simplified.{Simplified}
 use Rattle.ruler_simp.specs.Left.{start_of as left_start}
 use Rattle.ruler_simp.specs.Again.{round_start, before_round}
@@ -83,16 +83,16 @@ extended_long vars (fix ∷ S) a on long =
 
 module _ (F : FormulaData) (J0 : List Entry) (left : Simplified) (h : IsLeft F J0 left) (gs : List GlueAt) (k : ℕ) where
   -- what the rings' ports start from is what their round begins with
-  pub alike : IsAlike (record { journal = []; starts = map start_of (map (holding_of gs) (starts_at k left.start.items)); units = left.units.items }) (opening_by F.clauses (before_round J0 left) (Some (round_start left)))
+  pub alike : IsAlike (record { journal = []; starts = map start_of (map (holding_of gs) (starts_at k left.start.items)); units = unit_lits left.units.items }) (opening_by F.clauses (before_round J0 left) (Some (round_start left)))
   alike = record {
     starts = held_lits gs k left.start.items ∙ sym (by_numbers (book F.clauses (before_round J0 left)) left.start.items h.opens.starts);
     units = λ l. refl;
   }
 
   -- what makes true all that is left is a model once it is mended, and cut to the formula's variables
-  pub model : (a : List Bool) → F.vars ≤ left.vars → All (All (IsOn F.vars)) F.clauses → length a ≡ left.vars → All (λ (x : Holding). clause_true a x.lits ≡ true) (map (holding_of gs) (starts_at k left.start.items)) → All (λ l. lit_true a l ≡ true) left.units.items → IsModel F (take F.vars (extend left.stack a))
+  pub model : (a : List Bool) → F.vars ≤ left.vars → All (All (IsOn F.vars)) F.clauses → length a ≡ left.vars → All (λ (x : Holding). clause_true a x.lits ≡ true) (map (holding_of gs) (starts_at k left.start.items)) → All (λ l. lit_true a l ≡ true) (unit_lits left.units.items) → IsModel F (take F.vars (extend left.stack a))
   model a more on long starts units = record {
     holds = formula_cut F.vars (extend left.stack a) F.clauses on
-        ∙ h.lifts a (all_true a (lists left.start.items) (unit_clauses left.units.items) (starts_true a gs k left.start.items starts) (units_true a left.units.items units));
+        ∙ h.lifts a (all_true a (lists left.start.items) (unit_clauses (unit_lits left.units.items)) (starts_true a gs k left.start.items starts) (units_true a (unit_lits left.units.items) units));
     long = length-take-le F.vars (extend left.stack a) (let wide = extended_long left.vars left.stack a h.on.stack long in omega (arith, more, wide));
   }

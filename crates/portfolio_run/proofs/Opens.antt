@@ -1,16 +1,19 @@
 -- A round begins with what the ruler left, and a table can be opened for it.
-use Rattle.std.proofs.Common.{◌≡◌, ◌∙◌, ℕ, suc, ◌<◌, ◌≤◌, List, [], ◌∷◌, ◌++◌, map, All, Option, Some, None, Ok, append-nil, refl, sym, ap, subst, inl, inr, arith, get_or}
+use Rattle.share_core.specs.State.{unit_lits}
+use Rattle.std.proofs.Common.{◌≡◌, ◌∙◌, ℕ, suc, ◌<◌, ◌≤◌, true, List, [], ◌∷◌, ◌++◌, map, All, Option, Some, None, Ok, append-nil, refl, sym, ap, subst, inl, inr, arith, get_or}
 use Rattle.std.specs.Prelude.{◌⊎◌}
 use Rattle.std.specs.List.{list_any}
 use Rattle.std.specs.Option.{option_map, option_to_list, unwrap_or}
 use Rattle.sat_words.specs.Literal.{Literal, IsOn}
 use Rattle.sat_words.specs.Clause.{is_empty, clause_of}
+use Rattle.sat_words.specs.Formats.{has_hints}
 use Rattle.sat_words.specs.FormulaData.{FormulaData}
 use Rattle.sat_words.proofs.Insertion.{clause_of_in_order}
 use Rattle.rup_model.specs.declared.journal.Round.{Round as RoundStart}
 use Rattle.rup_model.specs.declared.journal.Entry.{Entry}
 use Rattle.rup_model.specs.declared.journal.Entry.TheVariants.{Round}
 use Rattle.rup_model.specs.Journal.{Book, book, LogSound}
+use Rattle.rup_model.specs.NumberedLines.{AreHinted}
 use Rattle.rup_model.specs.Opening.{Start, IsStart, OpensAfter, ruler_part}
 use Rattle.rup_model.specs.Windows.{start_of as start_in}
 use Rattle.rup_model.proofs.Additions.{told_more}
@@ -31,6 +34,7 @@ use Rattle.portfolio_run.specs.Journaled.{IsProgramRound, IsUnrefuted}
 use Rattle.portfolio_run.specs.Pauses.{StandsInRounds, IsLeft, Pause, IsPaused}
 use Rattle.portfolio_run.specs.Ruled.{schedule_of}
 use Rattle.portfolio_run.specs.Rulings.{Ruling, HaveGoneOn, HasRuledOn, work_after}
+use Rattle.portfolio_run.proofs.Hinting.{hinted_begun}
 use Rattle.portfolio_run.proofs.InRounds.{round_stands}
 use Rattle.portfolio_run.proofs.Resting.{IsResting, learned_resting}
 use Rattle.portfolio_run.proofs.RingsJournal.{adds_nothing}
@@ -83,7 +87,7 @@ module _ (F : FormulaData) (J : List Entry) (left : Simplified) where
         }
 
     -- a table can be opened after it
-    opens_there : OpensAfter F.clauses (record { journal = I; starts = map left_start left.start.items; units = left.units.items })
+    opens_there : OpensAfter F.clauses (record { journal = I; starts = map left_start left.start.items; units = unit_lits left.units.items })
     opens_there =
         let there = sound_next sound h.opens.rulers_part.going in
         record {
@@ -92,7 +96,7 @@ module _ (F : FormulaData) (J : List Entry) (left : Simplified) where
           going = going_next h.opens.rulers_part.going;
           starts = λ k d lt. alive_there (get_or (map left_start left.start.items) k d) (h.opens.starts k d lt);
           numbers = h.opens.numbers;
-          told = λ k d lt. told_more F.clauses J (Round x ∷ []) (get_or left.units.items k d) (h.opens.told k d lt);
+          told = λ k d lt. told_more F.clauses J (Round x ∷ []) (get_or (unit_lits left.units.items) k d) (h.opens.told k d lt);
           distinct = h.opens.distinct;
         }
 
@@ -103,6 +107,7 @@ module _ (F : FormulaData) (J : List Entry) (left : Simplified) where
       opens = opens_there;
       starts = h.starts;
       units = h.units;
+      numbered = h.numbered;
       lifts = h.lifts;
       on = h.on;
     }
@@ -141,7 +146,7 @@ module _ (p : Pause) (was : IsPaused p) (some_ring : 1 ≤ p.plan.threads) (on :
 
   -- the round has begun, or not yet
   module _ (begun : Option RoundStart) (stood : StandsInRounds p.left.vars p.plan.threads p.formula.clauses (J ++ option_to_list (option_map Round begun))) (sound : LogSound p.formula.clauses (J ++ option_to_list (option_map Round begun)))
-      (front : ruler_part (J ++ option_to_list (option_map Round begun)) ≡ ruler_part J) where
+      (hinted : has_hints p.plan.format ≡ true → AreHinted p.formula.clauses (J ++ option_to_list (option_map Round begun))) (front : ruler_part (J ++ option_to_list (option_map Round begun)) ≡ ruler_part J) where
     learned_is : learned_by p.plan.threads (J ++ option_to_list (option_map Round begun)) ≡ learned_by p.plan.threads was.past
     learned_is = learned_resting p.plan.threads was.past was.mine begun was.rulers
 
@@ -180,6 +185,7 @@ module _ (p : Pause) (was : IsPaused p) (some_ring : 1 ≤ p.plan.threads) (on :
       on = wider p.formula.vars p.left.vars was.more p.formula.clauses on;
       stood = stood;
       sound = sound;
+      hinted = hinted;
     }
 
   none_more : J ≡ J ++ []
@@ -188,12 +194,12 @@ module _ (p : Pause) (was : IsPaused p) (some_ring : 1 ≤ p.plan.threads) (on :
   pub unbegun_rests : IsResting p.plan p.formula p.tally None J
   unbegun_rests =
       subst (IsResting p.plan p.formula p.tally None) (append-nil J)
-      (rests None (subst (StandsInRounds p.left.vars p.plan.threads p.formula.clauses) none_more was.stood) (subst (LogSound p.formula.clauses) none_more was.sound) (ap ruler_part (append-nil J)))
+      (rests None (subst (StandsInRounds p.left.vars p.plan.threads p.formula.clauses) none_more was.stood) (subst (LogSound p.formula.clauses) none_more was.sound) (λ q. subst (AreHinted p.formula.clauses) none_more (was.hinted q)) (ap ruler_part (append-nil J)))
 
   pub begun_rests : IsResting p.plan p.formula p.tally (Some (round_start p.left)) (before_round J p.left)
   begun_rests =
       rests (Some (round_start p.left)) (round_stands p.left.vars p.plan.threads p.formula.clauses J (round_start p.left) was.stood (begins_well p.formula J p.left was.is_left was.sound)) (sound_there p.formula J p.left was.is_left was.sound)
-      (ap ruler_part (sym (append-nil (before_round J p.left))) ∙ front_stays J (round_start p.left) [])
+      (λ q. hinted_begun p.formula.clauses J (round_start p.left) (was.hinted q)) (ap ruler_part (sym (append-nil (before_round J p.left))) ∙ front_stays J (round_start p.left) [])
 
   -- what a table for the round is over
   pub begun_vars : (work_after begun_rests.ruled.work begun_rests.rulings).vars ≡ p.left.vars

@@ -1,11 +1,13 @@
 -- Rounds went by, the last of them spent: what is known of the journal that they left.
-use Rattle.std.proofs.Common.{◌≡◌, ◌≤◌, ◌^◌, ℕ, false, List, ◌∷◌, length, All}
+use Rattle.std.proofs.Common.{◌≡◌, ◌≤◌, ◌^◌, ℕ, true, false, List, ◌∷◌, length, All}
 use Rattle.std.specs.List.{list_any}
 use Rattle.sat_words.specs.Literal.{IsOn}
 use Rattle.sat_words.specs.Clause.{is_empty}
+use Rattle.sat_words.specs.Formats.{has_hints}
 use Rattle.sat_words.specs.FormulaData.{FormulaData}
 use Rattle.rup_model.specs.declared.journal.Entry.{Entry}
 use Rattle.rup_model.specs.Journal.{LogSound}
+use Rattle.rup_model.specs.NumberedLines.{AreHinted}
 use Rattle.model_stack.specs.declared.stack.Fix.{Fix}
 use Rattle.core_rounds.specs.Rounds.{RoundRun, IsSpent, AreRounds}
 use Rattle.core_rounds.specs.InRounds.{learned_by}
@@ -41,3 +43,4 @@ pub record HavePassed (plan : Plan) (F : FormulaData) (vars : ℕ) (stack : List
   pub going : IsUnrefuted J
   pub stood : StandsInRounds vars plan.threads F.clauses J
   pub sound : LogSound F.clauses J
+  pub hinted : has_hints plan.format ≡ true → AreHinted F.clauses J

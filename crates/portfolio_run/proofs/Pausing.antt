@@ -1,14 +1,16 @@
 -- Rounds went by, and the ruler goes on with what they left: the rings rest then, whatever it comes to.
-use Rattle.std.proofs.Common.{Less, ◌≡◌, ◌∙◌, ◌<◌, ◌≤◌, ◌^◌, ℕ, zero, suc, List, [], ◌∷◌, ◌++◌, All, Contains, Ok, None, append-nil, append_assoc, refl, sym, ap, subst, inl, inr, arith}
+use Rattle.std.proofs.Common.{Less, ◌≡◌, ◌∙◌, ◌<◌, ◌≤◌, ◌^◌, ℕ, zero, suc, true, List, [], ◌∷◌, ◌++◌, All, Contains, Ok, None, append-nil, append_assoc, refl, sym, ap, subst, inl, inr, arith}
 use Rattle.std.specs.List.{AllByRecursion}
 use Rattle.std.specs.List.Sorted.{IsStrictlySortedBy}
 use Rattle.std.specs.Ordering.{nat_cmp}
 use Rattle.sat_words.specs.Literal.{IsOn}
+use Rattle.sat_words.specs.Formats.{has_hints}
 use Rattle.sat_words.specs.FormulaData.{FormulaData}
 use Rattle.rup_model.specs.declared.journal.Round.{Round as RoundStart}
 use Rattle.rup_model.specs.declared.journal.Entry.{Entry}
 use Rattle.rup_model.specs.declared.journal.Entry.TheVariants.{Round}
 use Rattle.rup_model.specs.Journal.{added, LogSound}
+use Rattle.rup_model.specs.NumberedLines.{AreHinted}
 use Rattle.model_stack.specs.declared.stack.Fix.{Fix}
 use Rattle.simp_base.specs.WorkState.{begun as begun_work}
 use Rattle.simp_base.specs.declared.work.Run.TheVariants.{Done}
@@ -127,8 +129,8 @@ module _ (plan : Plan) (F : FormulaData) (vars : ℕ) (stack : List Fix) (tally 
     formula_on : All (All (IsOn wide)) F.clauses
     formula_on = let first = h.more in wider F.vars wide (omega (arith, first, more_vars)) F.clauses h.on
 
-    pub rests : LogSound F.clauses (J ++ written) → (rulings : List Ruling) → IsLastRuling F.clauses (schedule_of plan) h.first.work x xs written None rulings → IsResting plan F tally None (J ++ written)
-    rests sound rulings last =
+    pub rests : LogSound F.clauses (J ++ written) → (has_hints plan.format ≡ true → AreHinted F.clauses (J ++ written)) → (rulings : List Ruling) → IsLastRuling F.clauses (schedule_of plan) h.first.work x xs written None rulings → IsResting plan F tally None (J ++ written)
+    rests sound hinted rulings last =
         let same = learned_still written rulers in
         record {
           some_ring = h.some_ring;
@@ -152,13 +154,14 @@ module _ (plan : Plan) (F : FormulaData) (vars : ℕ) (stack : List Fix) (tally 
           on = formula_on;
           stood = stood_on;
           sound = sound;
+          hinted = hinted;
         }
 
   -- the rings rest as they left it
   pub rests_still : IsResting plan F tally None J
   rests_still =
       subst (IsResting plan F tally None) (append-nil J)
-      (rests vars (omega arith) h.few [] (λ k d lt. absurd (omega arith)) (λ k d lt. absurd (omega arith)) (subst (LogSound F.clauses) (sym (append-nil J)) h.sound) h.rulings (inl ([], dropped_none x, refl, refl, h.ruled)))
+      (rests vars (omega arith) h.few [] (λ k d lt. absurd (omega arith)) (λ k d lt. absurd (omega arith)) (subst (LogSound F.clauses) (sym (append-nil J)) h.sound) (λ q. subst (AreHinted F.clauses) (sym (append-nil J)) (h.hinted q)) h.rulings (inl ([], dropped_none x, refl, refl, h.ruled)))
 
   pub through_still : IsRuledThrough F (schedule_of plan) J
   through_still = subst (IsRuledThrough F (schedule_of plan)) (append-nil J) (through [])

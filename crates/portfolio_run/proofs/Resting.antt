@@ -5,6 +5,7 @@ use Rattle.std.specs.Option.{option_map, option_to_list}
 use Rattle.io_edge.specs.Causes.{Rose}
 use Rattle.sat_words.specs.Literal.{Literal, IsOn}
 use Rattle.sat_words.specs.Clause.{is_empty}
+use Rattle.sat_words.specs.Formats.{has_hints}
 use Rattle.sat_words.specs.FormulaData.{FormulaData}
 use Rattle.sat_words.specs.declared.line.Line.{Line}
 use Rattle.sat_words.specs.declared.shared.NoRoom.{NoRoom}
@@ -15,6 +16,7 @@ use Rattle.rup_model.specs.declared.journal.Round.{Round as RoundStart}
 use Rattle.rup_model.specs.declared.journal.Entry.{Entry}
 use Rattle.rup_model.specs.declared.journal.Entry.TheVariants.{Round}
 use Rattle.rup_model.specs.Journal.{learned, lines, LogSound}
+use Rattle.rup_model.specs.NumberedLines.{AreHinted}
 use Rattle.rup_model.specs.Opening.{program_opening}
 use Rattle.rup_model.proofs.Additions.{learned-append}
 use Rattle.rup_model.proofs.LogLaw.{refutes_none}
@@ -63,6 +65,7 @@ pub record IsResting (plan : Plan) (F : FormulaData) (tally : List Counts) (begu
   pub on : All (All (IsOn vars)) F.clauses
   pub stood : StandsInRounds vars plan.threads F.clauses I
   pub sound : LogSound F.clauses I
+  pub hinted : has_hints plan.format ≡ true → AreHinted F.clauses I
 
 -- nothing is learned in no entry
 pub none_learned : (rings : ℕ) → learned_by rings [] ≡ 0
@@ -89,8 +92,8 @@ on_variables : (L : List Line) → CanBeSpelled L → OnVariables L
 on_variables L spelled k d lt j l less = (spelled k d lt j l less).low
 
 module _ (plan : Plan) (F : FormulaData) (tally : List Counts) (begun : Option RoundStart) (I : List Entry) (h : IsResting plan F tally begun I) where
-  pub journal_stands : IsJournal plan.threads F.clauses I
-  journal_stands = journal_of_rounds h.vars plan.threads F.clauses I h.few h.on h.sound h.stood
+  pub journal_stands : IsJournal plan.threads (has_hints plan.format) F.clauses I
+  journal_stands = journal_of_rounds h.vars plan.threads (has_hints plan.format) F.clauses I h.few h.on h.sound h.hinted h.stood
 
   pub rested : RestsBetween plan.threads plan.slots plan.round plan.conflicts F.clauses I tally
   rested = record {

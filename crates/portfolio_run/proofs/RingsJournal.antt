@@ -15,7 +15,8 @@ use Rattle.rup_model.specs.declared.journal.TheConstants.{RULER_RING}
 use Rattle.rup_model.specs.declared.journal.Round.{Round as RoundStart}
 use Rattle.rup_model.specs.declared.journal.Entry.{Entry}
 use Rattle.rup_model.specs.declared.journal.Entry.TheVariants.{Round}
-use Rattle.rup_model.specs.Journal.{ring_of, lines, added, ended, LogSound}
+use Rattle.rup_model.specs.Journal.{formula_book, ring_of, lines, added, ended, LogSound}
+use Rattle.rup_model.specs.NumberedLines.{AreHinted}
 use Rattle.rup_model.specs.Opening.{Opening}
 use Rattle.rup_model.specs.Windows.{since_round, to_round, opening_by}
 use Rattle.rup_model.proofs.Additions.{added-append}
@@ -32,6 +33,7 @@ use Rattle.portfolio_run.specs.Solved.{IsRefutation, IsUnsettled}
 use Rattle.portfolio_run.specs.Spent.{LearnedAll}
 use Rattle.portfolio_run.proofs.InRounds.{HasWritten, IsAlike, round_stands, rings_stand, none_begins, journal_of_rounds}
 use Rattle.portfolio_run.proofs.Interleaving.{own, own-append, own_none, own_adds_none, none_adds}
+use Rattle.portfolio_run.proofs.Spelling.{formula_on, spelled_from}
 
 on_variables : (L : List Line) → CanBeSpelled L → OnVariables L
 on_variables L spelled k d lt j l less = (spelled k d lt j l less).low
@@ -72,8 +74,12 @@ module _ (F : FormulaData) (J0 : List Entry) (x : RoundStart) (K : List Entry) (
   pub stands : StandsInRounds F.vars rings F.clauses J
   stands = rings_stand F.vars rings F.clauses J0 x K t.few_rings t.of_rings o t.same t.each (round_stands F.vars rings F.clauses J0 x t.stood t.begins)
 
-  pub journal_stands : IsJournal rings F.clauses J
-  journal_stands = journal_of_rounds F.vars rings F.clauses J t.few t.on t.sound stands
+  -- a journal of a run, if its hints are right where it has them
+  pub journal_stands : (with_hints : Bool) → (with_hints ≡ true → AreHinted F.clauses J) → IsJournal rings with_hints F.clauses J
+  journal_stands with_hints hinted = journal_of_rounds F.vars rings with_hints F.clauses J t.few t.on t.sound hinted stands
+
+  spelled : CanBeSpelled (lines F.clauses J)
+  spelled = spelled_from F.vars t.few (formula_book F.clauses) J (formula_on F.vars F.clauses t.on) stands.on
 
   going_there : IsUnrefuted I
   going_there = ap (list_any is_empty) (adds_nothing J0 x) ∙ t.going
@@ -117,4 +123,4 @@ module _ (F : FormulaData) (J0 : List Entry) (x : RoundStart) (K : List Entry) (
   pub refutation : list_any is_empty F.clauses ≡ false → ended F.clauses J ≡ true → IsRefutation F.clauses J
   refutation none end =
       let r = added_empty_refutes F.clauses J t.sound (second_true (list_any is_empty F.clauses) (list_any is_empty (added J)) none (sym (list_any-append is_empty F.clauses (added J)) ∙ end)) in
-      record { refuted = r; no_model = λ m t. refutes_none F.clauses (lines F.clauses J) r (on_variables (lines F.clauses J) journal_stands.spelled) (m, t) }
+      record { refuted = r; no_model = λ m t. refutes_none F.clauses (lines F.clauses J) r (on_variables (lines F.clauses J) spelled) (m, t) }

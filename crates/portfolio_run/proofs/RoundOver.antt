@@ -1,4 +1,5 @@
 -- The rings' steps over a table are a round of the core, after those before it.
+use Rattle.share_core.specs.State.{unit_lits}
 use Rattle.std.proofs.Common.{◌≡◌, ◌∙◌, ◌+◌, ℕ, List, [], ◌∷◌, ◌++◌, All, Option, sym, ap, subst}
 use Rattle.std.proofs.Math.Seq.{drop-append_seam}
 use Rattle.sat_words.specs.Literal.{Literal}
@@ -63,7 +64,7 @@ module _ (p : Pause) (was : IsPaused p) (limit : ℕ) (l : Layout) (K : List Ent
   written_is = ap (later s.core.opening) (ap (λ (c : State). c.journal) left_is ∙ core_journal) ∙ drop-append_seam s.core.opening.journal K
 
   start_is : start_for s.core.opening ≡ round_start left
-  start_is = ap start_for g.opening_is ∙ ap (start_with left.units.items) (placed_numbers (first_cell l) left.start.items)
+  start_is = ap start_for g.opening_is ∙ ap (start_with (unit_lits left.units.items)) (placed_numbers (first_cell l) left.start.items)
 
   -- Lemmas
 

@@ -9,12 +9,13 @@ use Rattle.std.proofs.lemmas.List.Elements.{All-replicate}
 use Rattle.std.specs.Io.KnownBytes.{append_known}
 use Rattle.io_edge.specs.Paths.{IsEmptyWhereTold}
 use Rattle.sat_words.specs.Literal.{Literal, IsOn}
+use Rattle.sat_words.specs.Formats.{has_hints}
 use Rattle.sat_words.specs.FormulaData.{FormulaData}
 use Rattle.sat_words.specs.declared.line.ProofFormat.{ProofFormat}
 use Rattle.sat_words.specs.declared.shared.TheConstants.{MAX_ENTRIES}
 use Rattle.rup_model.specs.declared.journal.Entry.{Entry}
 use Rattle.rup_model.specs.Journal.{formula_book, lines}
-use Rattle.rup_model.specs.NumberedLines.{numbered_lines}
+use Rattle.rup_model.specs.NumberedLines.{AreHinted, numbered_lines}
 use Rattle.drat_text.specs.LineState.{LineState}
 use Rattle.drat_text.specs.Text.{CanBeSpelled}
 use Rattle.drat_text.specs.Spelling.{proof_bytes}
@@ -47,6 +48,7 @@ use Rattle.portfolio_run.specs.Room.{layout_of}
 use Rattle.portfolio_run.specs.Ruled.{schedule_of, IsRuledThrough}
 use Rattle.portfolio_run.specs.Solved.{IsReached, IsSolved}
 use Rattle.portfolio_run.proofs.Cuts.{cut_whole, front_of_same, front_told}
+use Rattle.portfolio_run.proofs.Hinting.{simplified_format}
 use Rattle.portfolio_run.proofs.InRounds.{none_stands, rulers_stand}
 use Rattle.portfolio_run.proofs.Opens.{first_left}
 use Rattle.portfolio_run.proofs.Resting.{IsResting, none_learned, same_learned, no_memory, no_entry, failed, refuted as refuted_resting}
@@ -54,7 +56,7 @@ use Rattle.portfolio_run.proofs.Rulers.{AreRulers, all_rulers, rulers_learned}
 use Rattle.portfolio_run.proofs.Spelling.{formula_on, spelled_from, wider}
 
 module _ (plan : Plan) (formula : FormulaData) (old now : LineState) (result : Result Outcome LineStop) (tally : List Counts) (few : formula.vars ≤ 2 ^ 30) (on : All (All (IsOn formula.vars)) formula.clauses)
-    (rings : 1 ≤ plan.threads) (none : (tally ≡ []) ⊎ (tally ≡ replicate plan.threads no_counts)) (unspent : old.spent ≡ false) (begins : old.entries ≡ 0) (last_is : old.last ≡ length formula.clauses)
+    (rings : 1 ≤ plan.threads) (none : (tally ≡ []) ⊎ (tally ≡ replicate plan.threads no_counts)) (unspent : old.spent ≡ false) (begins : old.entries ≡ 0) (last_is : old.last ≡ length formula.clauses) (format_is : old.format ≡ plan.format)
     (was : Ruled formula (schedule_of plan) old now result) where
   abbrev F : List (List Literal)
   F = formula.clauses
@@ -100,6 +102,10 @@ module _ (plan : Plan) (formula : FormulaData) (old now : LineState) (result : R
   pub nothing_learned : learned_by plan.threads J ≡ 0
   nothing_learned = same_learned plan.threads J [] (λ r. rulers_learned r J rulers) ∙ none_learned plan.threads
 
+  -- if the log has hints, they are right
+  pub rulers_hinted : has_hints plan.format ≡ true → AreHinted F J
+  rulers_hinted q = was.stands.hinted (ap has_hints (simplified_format (schedule_of plan) (begun_work formula old) was.work (run_of result) J was.ran ∙ format_is) ∙ q)
+
   -- no ring ran
   rests : IsResting plan formula tally None J
   rests = record {
@@ -136,6 +142,7 @@ module _ (plan : Plan) (formula : FormulaData) (old now : LineState) (result : R
     on = wide_on;
     stood = rulers_stood;
     sound = was.stands.sound;
+    hinted = rulers_hinted;
   }
 
   -- the formula was refuted
@@ -206,10 +213,10 @@ module _ {S : Type 0} {d : Ghosts S} (written flushed target : S → Option (Lis
     layout_over = layout_of plan left_vars plan.conflicts
 
     lines_are : HasLines (work_origin formula before) rulers_journal left_vars told
-    lines_are = has_lines plan formula before told result tally few on rings (inr none) refl refl refl was.ruled
+    lines_are = has_lines plan formula before told result tally few on rings (inr none) refl refl refl refl was.ruled
 
     filled_book : told.spent ≡ false → IsFilled (begun F' before) rulers_journal told
-    filled_book = filled plan formula before told result tally few on rings (inr none) refl refl refl was.ruled
+    filled_book = filled plan formula before told result tally few on rings (inr none) refl refl refl refl was.ruled
 
     records_whole : LogLaw b → b.log.lines.spent ≡ false → Records written flushed target faults plan.format sink F' rulers_journal b
     records_whole law q =
@@ -232,10 +239,10 @@ module _ {S : Type 0} {d : Ghosts S} (written flushed target : S → Option (Lis
     asked law q = (law F' rulers_journal layout_over plan.format sink plan.keep_lines was.empty (filled_book q)).1.keeps
 
     pub refuted_book : LogLaw b → CutLaw b → result ≡ Ok NoModel → HasReached written flushed target faults sink plan formula Unsat tally b
-    refuted_book law cut is = record { journal = rulers_journal; records = records law cut; reached = refuted plan formula before told result tally few on rings (inr none) refl refl refl was.ruled is; asked = asked law }
+    refuted_book law cut is = record { journal = rulers_journal; records = records law cut; reached = refuted plan formula before told result tally few on rings (inr none) refl refl refl refl was.ruled is; asked = asked law }
 
     pub stopped_book : LogLaw b → CutLaw b → (why : LineStop) → result ≡ Err why → HasReached written flushed target faults sink plan formula (stopped_answer why) tally b
-    stopped_book law cut why is = record { journal = rulers_journal; records = records law cut; reached = stopped plan formula before told result tally few on rings (inr none) refl refl refl was.ruled why is; asked = asked law }
+    stopped_book law cut why is = record { journal = rulers_journal; records = records law cut; reached = stopped plan formula before told result tally few on rings (inr none) refl refl refl refl was.ruled why is; asked = asked law }
 
     -- something is left: the rings rest before the first round
     module _ (left : Simplified) (is : result ≡ Ok (LeftOver left)) where
@@ -275,8 +282,9 @@ module _ {S : Type 0} {d : Ghosts S} (written flushed target : S → Option (Lis
         stack_is = subst (HasStack was.ruled.work.stack) is was.ruled.has_stack;
         more = subst (λ (n : ℕ). formula.vars ≤ n) (sym vars_are) was.ruled.more;
         few = subst (λ (n : ℕ). n ≤ 2 ^ 30) (sym vars_are) few_left;
-        stood = subst (λ (n : ℕ). StandsInRounds n plan.threads F' rulers_journal) (sym vars_are) (rulers_stood plan formula before told result tally few on rings (inr none) refl refl refl was.ruled);
+        stood = subst (λ (n : ℕ). StandsInRounds n plan.threads F' rulers_journal) (sym vars_are) (rulers_stood plan formula before told result tally few on rings (inr none) refl refl refl refl was.ruled);
         sound = was.ruled.stands.sound;
+        hinted = rulers_hinted plan formula before told result tally few on rings (inr none) refl refl refl refl was.ruled;
         is_left = first_left formula rulers_journal left left_answer.0 was.ruled.stands.sound;
         filled = filled_book left_answer.1.unspent;
         quiet = left_answer.1.quiet;
@@ -288,9 +296,9 @@ pub starved : (plan : Plan) (formula : FormulaData) (tally : List Counts) (befor
 starved plan formula tally before faults flushed written few on rings none empty later closed =
     let old : LineState = record { format = plan.format; entries = 0; last = length formula.clauses; spent = false; faults = before; written = written; target = None; flushed = None; kept = None } in
     let was : Ruled formula (schedule_of plan) old old (Err line_stop.Memory) = none_made formula (schedule_of plan) old refl refl refl on old refl in
-    let h : IsReached plan formula Memory tally before before was.journal = stopped plan formula old old (Err line_stop.Memory) tally few on rings none refl refl refl was line_stop.Memory refl in
+    let h : IsReached plan formula Memory tally before before was.journal = stopped plan formula old old (Err line_stop.Memory) tally few on rings none refl refl refl refl was line_stop.Memory refl in
     let bytes : List ℕ = proof_bytes plan.format (numbered_lines formula.clauses was.journal) in
-    let holds : HoldsText written bytes = told_text written bytes empty ((has_lines plan formula old old (Err line_stop.Memory) tally few on rings none refl refl refl was).whole refl).bytes in
+    let holds : HoldsText written bytes = told_text written bytes empty ((has_lines plan formula old old (Err line_stop.Memory) tally few on rings none refl refl refl refl was).whole refl).bytes in
     record {
       journal = was.journal;
       found = Memory;

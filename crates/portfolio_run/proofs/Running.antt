@@ -76,14 +76,15 @@ end_is_set v s one o e h = set_by v s one o (stop_kind e) h.won (not_own v o e h
 
 -- The port, over what the table was opened with
 
-same_port : (v w : View) (part : RingPart) (own : Own) (s : PortState) → w.layout ≡ v.layout → port_with w part own ≡ s → s.start ≡ map (holding_of (start_glues v.opening.starts)) v.opening.starts → s.opening ≡ v.opening.units → s.rings ≡ v.opening.rings → s.depth ≡ v.opening.depth → s.limit ≡ v.opening.limit → s ≡ port_with (record v { stop = w.stop; looks = w.looks }) part own
-same_port v w part own s lay is start opening rings depth limit =
+same_port : (v w : View) (part : RingPart) (own : Own) (s : PortState) → w.layout ≡ v.layout → port_with w part own ≡ s → s.start ≡ map (holding_of (start_glues v.opening.starts)) v.opening.starts → s.opening ≡ v.opening.units → s.rings ≡ v.opening.rings → s.depth ≡ v.opening.depth → s.limit ≡ v.opening.limit → s.hinted ≡ v.opening.hinted → s ≡ port_with (record v { stop = w.stop; looks = w.looks }) part own
+same_port v w part own s lay is start opening rings depth limit hinted =
     let st : map (holding_of (start_glues w.opening.starts)) w.opening.starts ≡ map (holding_of (start_glues v.opening.starts)) v.opening.starts = ap (λ (x : PortState). x.start) is ∙ start in
     let op : w.opening.units ≡ v.opening.units = ap (λ (x : PortState). x.opening) is ∙ opening in
     let rg : w.opening.rings ≡ v.opening.rings = ap (λ (x : PortState). x.rings) is ∙ rings in
     let dp : w.opening.depth ≡ v.opening.depth = ap (λ (x : PortState). x.depth) is ∙ depth in
     let lt : w.opening.limit ≡ v.opening.limit = ap (λ (x : PortState). x.limit) is ∙ limit in
-    sym is ∙ (λ i. record (port_with w part own) { coming = 2 * (lay i).vars - own.passed; start = st i; opening = op i; vars = (lay i).vars; rings = rg i; depth = dp i; limit = lt i })
+    let ht : w.opening.hinted ≡ v.opening.hinted = ap (λ (x : PortState). x.hinted) is ∙ hinted in
+    sym is ∙ (λ i. record (port_with w part own) { coming = 2 * (lay i).vars - own.passed; start = st i; opening = op i; vars = (lay i).vars; rings = rg i; depth = dp i; limit = lt i; hinted = ht i })
 
 -- what a port that has run shows is so of its pass
 pub run_of : {B : Type 0} (t : Shared B) (first p : Seat (Option B) View) (plan : Plan) (ring : ℕ) (s : PortState) (end : Option (End × Counts)) (e : End × Counts) → IsPassOf t first → HasRun (begun_at first.me.0 (home_of first) ring) (job_at first.me.0 plan ring) s end → Shows t s end p e → IsRun t first.me.0 (home_of first) plan ring p e
@@ -96,7 +97,7 @@ run_of {B} t first p plan ring s end e pass run shows =
     let own = shows.own in
     let ring_is : (only w).core.ring ≡ ring = ap (λ (x : PortState). x.ring) shows.state ∙ ran.stays.ring in
     let lay : w.layout ≡ v.layout = shows.pass.0.2 ∙ sym pass.2 in
-    let same = same_port v w (only w) own s lay shows.state ran.stays.start ran.stays.opening ran.stays.rings ran.stays.depth ran.stays.limit in
+    let same = same_port v w (only w) own s lay shows.state ran.stays.start ran.stays.opening ran.stays.rings ran.stays.depth ran.stays.limit ran.stays.hinted in
     record {
       has = record { pass = shows.pass; one = shows.one; ring_is = ring_is; free = shows.free; settled = shows.settled };
       ran = record {

@@ -1,4 +1,5 @@
 -- What the search over the table of a round settles: the answer, if the run ends there, or that the round is passed.
+use Rattle.sat_words.specs.Formats.{has_hints}
 use Rattle.io_edge.specs.declared.edge.Sink.{Ghosts}
 use Rattle.std.proofs.Common.{◌≡◌, ◌∙◌, ◌+◌, ◌-◌, ◌^◌, ◌<◌, ◌≤◌, ℕ, Bool, List, length, replicate, get_or, refl, sym, ap, subst, inl, inr, arith}
 use Rattle.std.specs.Prelude.{All, ◌⊎◌, Some}
@@ -75,7 +76,7 @@ module _ {S : Type 0} {d : Ghosts S} (written flushed target : S → Option (Lis
     (rings : 1 ≤ plan.threads) (few_rings : plan.threads ≤ 16) (vars : ℕ) (stack : List Fix) (before : List Counts) (done limit : ℕ) (t : Shared (Book S d)) (p : Seat (Option (Book S d)) View) (counts : List Counts) (answer : Answer)
     (h : HasSettled written flushed target faults sink plan F vars stack before done limit t p counts answer) where
   abbrev v : View
-  v = first_view t.layout (began_with F t.layout (journal_at (pause_of written flushed target faults sink plan F h.left before done h.opened.book) h.opened.was) h.left) h.opened.origin
+  v = first_view t.layout (began_with F t.layout (has_hints plan.format) (journal_at (pause_of written flushed target faults sink plan F h.left before done h.opened.book) h.opened.was) h.left) h.opened.origin
 
   abbrev none : List Counts
   none = replicate plan.threads no_counts

@@ -1,4 +1,7 @@
 -- The table of a round over what the ruler left, as it is opened.
+use Rattle.portfolio_run.proofs.UnitPairs.{paired_in_round}
+use Rattle.share_core.specs.State.{ArePaired, unit_lits, unit_numbers}
+use Rattle.sat_words.specs.Formats.{has_hints}
 use Rattle.io_edge.specs.declared.edge.Sink.{Ghosts}
 use Rattle.std.proofs.Common.{◌≡◌, ◌∙◌, ◌^◌, ◌≤◌, ◌<◌, ◌-◌, ◌||◌, ℕ, false, List, [], ◌∷◌, ◌++◌, map, Option, Some, None, refl, sym, ap, subst, arith}
 use Rattle.std.specs.Prelude.{All, is_some, slice_index_or}
@@ -18,7 +21,8 @@ use Rattle.clause_cell.specs.declared.holes.HoleStop.TheVariants as hole_stop
 use Rattle.rup_model.specs.declared.journal.Round.{Round as RoundStart}
 use Rattle.rup_model.specs.declared.journal.Entry.{Entry}
 use Rattle.rup_model.specs.declared.journal.Entry.TheVariants.{Round}
-use Rattle.rup_model.specs.Journal.{added}
+use Rattle.rup_model.specs.Journal.{Book as Clauses, book, added}
+use Rattle.rup_model.proofs.Numbers.{book_last}
 use Rattle.rup_model.specs.Opening.{AreAscending, program_opening}
 use Rattle.rup_model.proofs.ProgramOpening.{program_ascends}
 use Rattle.drat_text.specs.JournalText.{Origin, later_bytes}
@@ -58,8 +62,8 @@ use Rattle.portfolio_run.proofs.Resting.{no_memory, no_entry, no_place}
 use Rattle.portfolio_run.proofs.Ruling.{LogLaw}
 
 -- the journal once a round has begun with these clauses and units
-abbrev pub with_round : List Entry → List (ℕ × List Literal) → List Literal → List Entry
-with_round J ss us = J ++ Round (record { starts = map (λ (s : ℕ × List Literal). s.0) ss; units = us }) ∷ []
+abbrev pub with_round : List Entry → List (ℕ × List Literal) → List (Literal × ℕ) → List Entry
+with_round J ss us = J ++ Round (record { starts = map (λ (s : ℕ × List Literal). s.0) ss; units = unit_lits us }) ∷ []
 
 in_vars : (l : Layout) (lits : List Literal) → All (IsOn l.vars) lits → InVars l lits
 in_vars l lits on k d lt = let h = on k d lt in (h.low, h.high)
@@ -149,18 +153,19 @@ module _ {S : Type 0} {d : Ghosts S} (written flushed target : S → Option (Lis
           going = list_any-append is_empty F.clauses (added J1) ∙ (λ i. was.is_left.whole i || going_there F J0 left was.is_left was.sound i);
           few_entries = omega (arith, entries, small);
           starts = λ k x lt. in_vars wide (slice_index_or left.start.items k x).1 (on_left.start k x lt);
-          units = in_vars wide left.units.items on_left.units;
+          units = in_vars wide (unit_lits left.units.items) on_left.units;
+          paired = subst (λ (b : Clauses). ArePaired b (unit_lits left.units.items) (unit_numbers left.units.items)) (sym (book_last F.clauses J0 (Round (round_start left)))) (paired_in_round (book F.clauses J0) (round_start left) left.units.items was.is_left.numbered);
           limited = omega (arith, limit_is, within, few_lemmas);
         }
 
-    pub begins : plan.threads ≤ 16 → plan.conflicts ≤ 10 ^ 12 → plan.words ≤ 2 ^ 31 → 1 ≤ plan.slots → plan.slots ≤ 16 → (ss : List (ℕ × List Literal)) → ss ≡ left.start.items → (us : List Literal) → us ≡ left.units.items → MayBegin F.clauses wide (with_round J ss us) ss us
+    pub begins : plan.threads ≤ 16 → plan.conflicts ≤ 10 ^ 12 → plan.words ≤ 2 ^ 31 → 1 ≤ plan.slots → plan.slots ≤ 16 → (ss : List (ℕ × List Literal)) → ss ≡ left.start.items → (us : List (Literal × ℕ)) → us ≡ left.units.items → MayBegin F.clauses wide (with_round J ss us) ss us
     begins few_rings few_lemmas few_words some_slot few_slots ss ss_is us us_is =
-        subst (λ (y : List Entry × (List (ℕ × List Literal) × List Literal)). MayBegin F.clauses wide (with_round y.0 y.1.0 y.1.1) y.1.0 y.1.1) (λ i. (at.is i, (sym ss_is i, sym us_is i)))
+        subst (λ (y : List Entry × (List (ℕ × List Literal) × List (Literal × ℕ))). MayBegin F.clauses wide (with_round y.0 y.1.0 y.1.1) y.1.0 y.1.1) (λ i. (at.is i, (sym ss_is i, sym us_is i)))
         (may_begin few_rings few_lemmas few_words some_slot few_slots)
 
-    pub logged : (ss : List (ℕ × List Literal)) → ss ≡ left.start.items → (us : List Literal) → us ≡ left.units.items → HasLog account_of (IsLogOf written flushed target faults) c origin wide F.clauses (with_round J ss us)
+    pub logged : (ss : List (ℕ × List Literal)) → ss ≡ left.start.items → (us : List (Literal × ℕ)) → us ≡ left.units.items → HasLog account_of (IsLogOf written flushed target faults) c origin wide F.clauses (with_round J ss us)
     logged ss ss_is us us_is =
-        subst (λ (y : List Entry × (List (ℕ × List Literal) × List Literal)). HasLog account_of (IsLogOf written flushed target faults) c origin wide F.clauses (with_round y.0 y.1.0 y.1.1)) (λ i. (at.is i, (sym ss_is i, sym us_is i))) log_there.0
+        subst (λ (y : List Entry × (List (ℕ × List Literal) × List (Literal × ℕ))). HasLog account_of (IsLogOf written flushed target faults) c origin wide F.clauses (with_round y.0 y.1.0 y.1.1)) (λ i. (at.is i, (sym ss_is i, sym us_is i))) log_there.0
 
     pub whole : c.log.lines.spent ≡ false
     whole = filled_there.unspent
@@ -186,8 +191,8 @@ module _ {S : Type 0} {d : Ghosts S} (written flushed target : S → Option (Lis
     unmade_over hole_stop.Memory s = no_memory plan F tally (Some (round_start left)) J1 (begun_rests here was rings on) (faults sink) (faults c.log.lines.sink) going still
 
     module _ (l : Layout) (l_is : l ≡ wide) (ss : List (ℕ × List Literal)) (ss_is : ss ≡ left.start.items) where
-      pub opened : (us : List Literal) → us ≡ left.units.items → (m : Shared (Book S d) × Seat (Option (Book S d)) View × Vec Cref)
-          → (m.0.layout ≡ l) × IsPassOf m.0 m.1 × (m.1.me ≡ (first_view l (begun_with F.clauses l (with_round J ss us) ss us) origin, []))
+      pub opened : (us : List (Literal × ℕ)) → us ≡ left.units.items → (m : Shared (Book S d) × Seat (Option (Book S d)) View × Vec Cref)
+          → (m.0.layout ≡ l) × IsPassOf m.0 m.1 × (m.1.me ≡ (first_view l (begun_with F.clauses l (has_hints origin.format) (with_round J ss us) ss us) origin, []))
           → m.2.items ≡ addresses (starts_at (first_cell l) ss)
           → IsOpened written flushed target faults sink plan F left tally done limit m.0 m.1 m.2.items
       opened us us_is m made cells =
@@ -207,7 +212,7 @@ module _ {S : Type 0} {d : Ghosts S} (written flushed target : S → Option (Lis
             keeps_are = from.keeps;
             layout_is = made.0 ∙ l_is;
             pass = made.1;
-            me = made.2 ∙ (λ i. (first_view (sym made.0 i) (begun_with F.clauses (sym made.0 i) (with_round (sym at.is i) (ss_is i) (us_is i)) (ss_is i) (us_is i)) origin, []));
+            me = made.2 ∙ (λ i. (first_view (sym made.0 i) (begun_with F.clauses (sym made.0 i) (has_hints (from.format_is i)) (with_round (sym at.is i) (ss_is i) (us_is i)) (ss_is i) (us_is i)) origin, []));
             cells_are = cells ∙ ap (λ (x : View × List (ℕ × Option (Book S d))). addresses x.0.opening.starts) (sym made.2);
           }
 
@@ -219,6 +224,10 @@ module _ {S : Type 0} {d : Ghosts S} (written flushed target : S → Option (Lis
 -- Before the search
 
 -- the first pass of a table has the rights to all grants
+-- the rings give hints if the opening says so
+pub first_hinted : {B : Type 0} (p : Seat (Option B) View) (l : Layout) (o : CoreOpening) (w : BookOrigin) → p.me ≡ (first_view l o w, []) → p.me.0.opening.hinted ≡ o.hinted
+first_hinted p l o w is = let v : p.me.0 ≡ first_view l o w = ap (λ m. m.0) is in ap (λ (u : View). u.opening.hinted) v
+
 pub first_rights : {B : Type 0} (t : Shared B) (p : Seat (Option B) View) (l : Layout) (o : CoreOpening) (w : BookOrigin) → IsPassOf t p → p.me ≡ (first_view l o w, []) → HasRightsFrom t p 0
 first_rights t p l o w pass is =
     let v : p.me.0 ≡ first_view l o w = ap (λ m. m.0) is in

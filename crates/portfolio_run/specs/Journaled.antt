@@ -1,5 +1,5 @@
 -- The journal of a run, and what the writer of its proof holds.
-use Rattle.std.specs.Prelude.{◌≡◌, ◌⊎◌, ℕ, List, [], ◌∷◌, ◌++◌, map, take, All, IfSome, true, false, ⊤}
+use Rattle.std.specs.Prelude.{◌≡◌, ◌⊎◌, ℕ, Bool, List, [], ◌∷◌, ◌++◌, map, take, All, IfSome, true, false, ⊤}
 use Rattle.std.specs.List.{list_any}
 use Rattle.std.specs.declared.option.Option.{Option}
 use Rattle.sat_words.specs.Literal.{Literal}
@@ -11,7 +11,7 @@ use Rattle.rup_model.specs.declared.journal.Entry.TheVariants.{Add, Del, Reduce,
 use Rattle.rup_model.specs.Basics.{EachAfter}
 use Rattle.rup_model.specs.Log.{Accepted}
 use Rattle.rup_model.specs.Journal.{added, lines, round_of, Fits, EmptyLast}
-use Rattle.rup_model.specs.NumberedLines.{NumberedLine, line_of, numbered_lines}
+use Rattle.rup_model.specs.NumberedLines.{NumberedLine, AreHinted, line_of, numbered_lines}
 use Rattle.rup_model.specs.Opening.{is_rulers, program_opening}
 use Rattle.rup_model.specs.Windows.{begins_round, IsNewInRound, IsSpacedInRound}
 use Rattle.core_rounds.specs.InRounds.{IsOfRounds}
@@ -43,14 +43,15 @@ abbrev pub BeginsWell : List (List Literal) → List Entry → Entry → Type 0
 BeginsWell clauses before e = IfSome (round_of e) (IsProgramRound clauses before)
 
 -- a journal of this many rings: its numbers fit, each line is valid where it stands, nothing follows the empty clause,
--- its lines can be spelled; each entry is the ruler's, begins a round as the program's opening says, or is of one of the rings;
--- each clause that a ring learned was new in its round when it was added, and enough were learned in the round before each
--- Reduce entry since the one before
-pub record IsJournal (rings : ℕ) (clauses : List (List Literal)) (journal : List Entry) : Type 0 where
+-- its lines can be spelled; if its additions have hints, these show that they follow; each entry is the ruler's, begins a round as
+-- the program's opening says, or is of one of the rings; each clause that a ring learned was new in its round when it was added, and
+-- enough were learned in the round before each Reduce entry since the one before
+pub record IsJournal (rings : ℕ) (with_hints : Bool) (clauses : List (List Literal)) (journal : List Entry) : Type 0 where
   pub fits : Fits clauses journal
   pub accepted : Accepted clauses (lines clauses journal)
   pub last : EmptyLast journal
   pub spelled : CanBeSpelled (lines clauses journal)
+  pub hinted : with_hints ≡ true → AreHinted clauses journal
   pub of_rounds : All (IsOfRounds rings) journal
   pub plain : All IsPlainEntry journal
   pub begins : EachAfter (BeginsWell clauses) [] journal

@@ -3,23 +3,25 @@ use Rattle.std.specs.Prelude.{◌≡◌, ◌<◌, ◌≤◌, ◌+◌, ◌*◌, �
 use Rattle.std.specs.List.{list_any}
 use Rattle.sat_words.specs.Literal.{Literal, IsOn}
 use Rattle.sat_words.specs.Clause.{has, is_empty}
+use Rattle.sat_words.specs.Formats.{has_hints}
 use Rattle.sat_words.specs.FormulaData.{FormulaData}
 use Rattle.rup_model.specs.declared.journal.Entry.{Entry}
 use Rattle.rup_model.specs.Basics.{EachAfter}
-use Rattle.rup_model.specs.Journal.{added, LogSound}
+use Rattle.rup_model.specs.Journal.{book, added, LogSound}
+use Rattle.rup_model.specs.NumberedLines.{AreHinted}
 use Rattle.rup_model.specs.Opening.{OpensAfter, is_rulers, program_opening, ruler_part}
 use Rattle.rup_model.specs.Windows.{IsNewInRound, IsSpacedInRound}
 use Rattle.model_stack.specs.Extend.{Lifts}
 use Rattle.drat_text.specs.LineState.{LineState}
 use Rattle.log_book.specs.Books.{begun, IsFilled}
-use Rattle.simp_base.specs.WorkState.{WorkState, begun as begun_work}
+use Rattle.simp_base.specs.WorkState.{WorkState, unit_lits, begun as begun_work}
 use Rattle.simp_base.specs.declared.work.Run.TheVariants.{Done}
 use Rattle.ruler_simp.specs.declared.ruling.Simplified.{Simplified}
 use Rattle.ruler_simp.specs.declared.rounds.Schedule.{Schedule}
 use Rattle.ruler_simp.specs.Again.{before_round}
 use Rattle.ruler_simp.specs.Left.{start_of, left_clauses}
 use Rattle.ruler_simp.specs.Rounds.{SimplifiedTo}
-use Rattle.ruler_simp.specs.Ruled.{AreOn}
+use Rattle.ruler_simp.specs.Ruled.{AreOn, HaveUnitNumbers}
 use Rattle.core_rounds.specs.Rounds.{RoundRun, IsDue, AreRounds}
 use Rattle.core_rounds.specs.InRounds.{learned_by, IsOfRounds}
 use Rattle.ring_run.specs.declared.job.Counts.{Counts}
@@ -52,15 +54,16 @@ pub record HasBegun (F : FormulaData) (schedule : Schedule) (J : List Entry) : T
 
 -- What is left
 
--- neither the formula nor the journal has the empty clause; after this journal the start clauses, in their order, and the units are
--- those of the program's opening, and once an entry begins the next round the rings can start from them; each model of them, mended
--- by the stack, is a model of the formula; all are on the variables that are left
+-- neither the formula nor the journal has the empty clause; after this journal the start clauses, in their order, and the units
+-- are those of the program's opening, each unit with the number of its clause, and once an entry begins the next round the rings
+-- can start from them; each model of them, mended by the stack, is a model of the formula; all are on the variables that are left
 pub record IsLeft (F : FormulaData) (J : List Entry) (left : Simplified) : Type 0 where
   pub whole : list_any is_empty F.clauses ≡ false
   pub going : list_any is_empty (added J) ≡ false
-  pub opens : OpensAfter F.clauses (record { journal = before_round J left; starts = map start_of left.start.items; units = left.units.items })
+  pub opens : OpensAfter F.clauses (record { journal = before_round J left; starts = map start_of left.start.items; units = unit_lits left.units.items })
   pub starts : map start_of left.start.items ≡ (program_opening F.clauses J).starts
-  pub units : (l : Literal) → has left.units.items l ≡ has (program_opening F.clauses J).units l
+  pub units : (l : Literal) → has (unit_lits left.units.items) l ≡ has (program_opening F.clauses J).units l
+  pub numbered : HaveUnitNumbers (book F.clauses J) left.units.items
   pub lifts : Lifts F.clauses (left_clauses left) left.stack
   pub on : AreOn left.vars left
 
@@ -94,7 +97,8 @@ pub record Pause : Type 0 where
   pub now : LineState
 
 -- the rings rest: rounds left a journal, and one more is due; the ruler went on with it and came to its end, and what is left has the
--- variables and the stack of its last work; its output has the lines; each ring counted what it did
+-- variables and the stack of its last work; its output has the lines; each ring counted what it did; if the proof has hints, those of
+-- each addition show that it follows
 pub record IsPaused (p : Pause) : Type 0 where
   pub runs : List RoundRun
   pub past : List Entry
@@ -118,6 +122,7 @@ pub record IsPaused (p : Pause) : Type 0 where
   pub few : p.left.vars ≤ 2 ^ 30
   pub stood : StandsInRounds p.left.vars p.plan.threads p.formula.clauses (past ++ mine)
   pub sound : LogSound p.formula.clauses (past ++ mine)
+  pub hinted : has_hints p.plan.format ≡ true → AreHinted p.formula.clauses (past ++ mine)
   pub is_left : IsLeft p.formula (past ++ mine) p.left
   pub filled : IsFilled (begun p.formula.clauses p.before) (past ++ mine) p.now
   pub quiet : p.now.faults ≡ p.before.faults

@@ -11,7 +11,7 @@ use Rattle.drat_text.specs.LineOut.{PutLine, WasPut, deleted_line}
 use Rattle.drat_text.specs.declared.stop.LineStop.{LineStop}
 use Rattle.drat_text.specs.declared.stop.LineStop.TheVariants.{Memory}
 use Rattle.share_rule.specs.declared.rests.Rest.{Rest}
-use Rattle.simp_base.specs.WorkState.{resumed}
+use Rattle.simp_base.specs.WorkState.{resumed, unit_cells}
 use Rattle.simp_base.specs.Log.{HasLines}
 use Rattle.simp_base.specs.Resumed.{Resumes}
 use Rattle.simp_base.specs.Causes.{HasOutputCause}
@@ -55,16 +55,17 @@ pub record TookFront (rs : List Rest) (old new : LineState) (stop : LineStop) : 
   pub took : TookLines old front middle
   pub cause : ((stop ≡ Memory) × (new ≡ middle)) ⊎ ((r : Rest) × (others : List Rest) × (rest ≡ r ∷ others) × WasPut {T = Unit {0}} middle new (deletion_of middle r) (Err stop))
 
--- after this journal all of them are what a work can go on with, and each has two literals or more
-abbrev pub AreLeftAfter : List (List Literal) → ℕ → List Rest → List Literal → List Fix → LineState → List Entry → Type 0
-AreLeftAfter F vars rs us stack out J = Resumes F vars (map cell_of rs) us stack out J × All (λ r. two_or_more r.clause ≡ true) rs
+-- after this journal all of them and the clauses of the units are what a work can go on with, and each of them has two literals or
+-- more
+abbrev pub AreLeftAfter : List (List Literal) → ℕ → List Rest → List (Literal × ℕ) → List Fix → LineState → List Entry → Type 0
+AreLeftAfter F vars rs us stack out J = Resumes F vars (map cell_of rs ++ unit_cells us) us stack out J × All (λ r. two_or_more r.clause ≡ true) rs
 
 -- the output has the deletions after the lines of any journal after which these are left
-abbrev pub HasDeletions : List (List Literal) → ℕ → List Rest → List Literal → List Fix → (ns : List ℕ) → (old new : LineState) → Type 0
+abbrev pub HasDeletions : List (List Literal) → ℕ → List Rest → List (Literal × ℕ) → List Fix → (ns : List ℕ) → (old new : LineState) → Type 0
 HasDeletions F vars rs us stack ns old new = (J : List Entry) → AreLeftAfter F vars rs us stack old J → HasLines (record { formula = F; journal = J; output = old }) (deletions ns) vars new
 
--- it was stopped as it deleted them
-pub record WasStopped (F : List (List Literal)) (vars : ℕ) (rs : List Rest) (us : List Literal) (stack : List Fix) (old new : LineState) (result : Result Outcome LineStop) : Type 0 where
+-- it was stopped as it deleted them, or memory ran out before the simplifiers could begin
+pub record WasStopped (F : List (List Literal)) (vars : ℕ) (rs : List Rest) (us : List (Literal × ℕ)) (stack : List Fix) (old new : LineState) (result : Result Outcome LineStop) : Type 0 where
   pub stop : LineStop
   pub is : result ≡ Err stop
   pub cause : HasOutputCause old new stop
@@ -74,15 +75,15 @@ pub record WasStopped (F : List (List Literal)) (vars : ℕ) (rs : List Rest) (u
   pub lines : HasDeletions F vars rs us stack front old new
   pub sound : (J : List Entry) → AreLeftAfter F vars rs us stack old J → LogSound F (J ++ deletions front)
 
--- it deleted all of them, and then the simplifiers ran over the others
-pub record HasWorked (F : List (List Literal)) (schedule : Schedule) (vars : ℕ) (rs : List Rest) (us : List Literal) (stack : List Fix) (old new : LineState) (result : Result Outcome LineStop) : Type 0 where
+-- it deleted all of them, and then the simplifiers ran over the others and the clauses of the units
+pub record HasWorked (F : List (List Literal)) (schedule : Schedule) (vars : ℕ) (rs : List Rest) (us : List (Literal × ℕ)) (stack : List Fix) (old new : LineState) (result : Result Outcome LineStop) : Type 0 where
   pub middle : LineState
   pub unspent : middle.spent ≡ false
   pub quiet : middle.faults ≡ old.faults
   pub lines : HasDeletions F vars rs us stack (dropped_of rs) old middle
-  pub resumes : (J : List Entry) → AreLeftAfter F vars rs us stack old J → Resumes F vars (kept_of rs) us stack middle (J ++ deletions (dropped_of rs))
-  pub ruled : RuledAgain F schedule (resumed vars (kept_of rs) us stack middle) new result
+  pub resumes : (J : List Entry) → AreLeftAfter F vars rs us stack old J → Resumes F vars (kept_of rs ++ unit_cells us) us stack middle (J ++ deletions (dropped_of rs))
+  pub ruled : RuledAgain F schedule (resumed vars (kept_of rs ++ unit_cells us) us stack middle) new result
 
 -- either
-abbrev pub WentOn : List (List Literal) → Schedule → ℕ → List Rest → List Literal → List Fix → LineState → LineState → Result Outcome LineStop → Type 0
+abbrev pub WentOn : List (List Literal) → Schedule → ℕ → List Rest → List (Literal × ℕ) → List Fix → LineState → LineState → Result Outcome LineStop → Type 0
 WentOn F schedule vars rs us stack old new result = WasStopped F vars rs us stack old new result ⊎ HasWorked F schedule vars rs us stack old new result

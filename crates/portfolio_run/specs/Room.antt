@@ -11,7 +11,8 @@ use Rattle.share_core.specs.declared.part.CoreOpening.{CoreOpening}
 use Rattle.share_core.specs.State.{opening_of}
 use Rattle.core_rounds.specs.InRounds.{learned_by, round_limit}
 use Rattle.share_rule.specs.declared.Layout.{Layout}
-use Rattle.share_rule.specs.FirstWords.{IsNoHole, begun_with}
+use Rattle.share_rule.specs.FirstWords.{IsNoHole, starts_at}
+use Rattle.share_rule.specs.Layout.{first_cell}
 use Rattle.share_rule.specs.Tight.{IsTight, numbered}
 use Rattle.ring_run.specs.declared.job.Counts.{Counts}
 use Rattle.portfolio_run.specs.declared.plan.Plan.{Plan}
@@ -35,7 +36,7 @@ pub record IsUnplaced (layout : Layout) {rings slots : ℕ} {every : Option ℕ}
 
 -- the opening with its start clauses one after another in the words of this layout
 abbrev pub laid_out : Layout → CoreOpening → CoreOpening
-laid_out layout o = begun_with o.formula layout o.journal (numbered (opening_of o).starts) o.units
+laid_out layout o = record o { starts = starts_at (first_cell layout) (numbered (opening_of o).starts) }
 
 -- The clauses of a round lie in the table's words as the journal has it, each at the front of the first free range that is long
 -- enough. Before the round's rings ran a start clause came next, or after a front of the journal a clause might come next, which

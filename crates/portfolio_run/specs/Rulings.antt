@@ -58,7 +58,7 @@ pub record IsRuling (F : List (List Literal)) (schedule : Schedule) (before : Wo
   pub dropped : AreDropped x y.dropped
   pub vars_are : y.start.vars ≡ before.vars
   pub stack_is : y.start.stack ≡ before.stack
-  pub begins : y.start ≡ resumed y.start.vars y.start.clauses y.start.units y.start.stack y.start.output
+  pub begins : (y.start.unheld ≡ y.start.vars) × (y.start.ended ≡ false)
   pub unspent : y.start.output.spent ≡ false
   pub resumes : ResumesAs F y.start ((left_by x).journal ++ deletions y.dropped)
   pub ran : SimplifiedTo schedule y.start y.work y.result y.entries

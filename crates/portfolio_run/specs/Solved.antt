@@ -4,6 +4,7 @@ use Rattle.std.specs.declared.option.Option.{Option}
 use Rattle.io_edge.specs.Causes.{Rose}
 use Rattle.sat_words.specs.Literal.{Literal}
 use Rattle.sat_words.specs.Truth.{formula_true}
+use Rattle.sat_words.specs.Formats.{has_hints}
 use Rattle.sat_words.specs.FormulaData.{FormulaData}
 use Rattle.sat_words.specs.declared.line.Line.{Line}
 use Rattle.sat_words.specs.declared.line.ProofFormat.{ProofFormat}
@@ -96,7 +97,7 @@ pub record FaultsFit (plan : Plan) (formula : FormulaData) (journal : List Entry
 -- table's variables are those that the ruler left last. The sink of the proof had failed this often before the search, and this often
 -- by then.
 pub record IsReached (plan : Plan) (formula : FormulaData) (answer : Answer) (tally : List Counts) (before searched : ℕ) (journal : List Entry) : Type 0 where
-  pub stands : IsJournal plan.threads formula.clauses journal
+  pub stands : IsJournal plan.threads (has_hints plan.format) formula.clauses journal
   pub ruled : IsRuled formula (schedule_of plan) journal
   pub held : IsHeld plan.threads plan.slots plan.round plan.conflicts formula.clauses journal tally
   pub rulings : List Ruling

@@ -4,6 +4,7 @@ use Rattle.std.specs.Prelude.{◌≡◌, ◌+◌, ℕ, List, [], ◌++◌, repli
 use Rattle.std.specs.declared.option.Option.{Option}
 use Rattle.atomic_table.specs.declared.shared.Seat.{Seat}
 use Rattle.sat_words.specs.FormulaData.{FormulaData}
+use Rattle.sat_words.specs.Formats.{has_hints}
 use Rattle.sat_words.specs.declared.shared.Cref.{Cref}
 use Rattle.model_stack.specs.declared.stack.Fix.{Fix}
 use Rattle.core_rounds.specs.InRounds.{round_limit}
@@ -43,7 +44,7 @@ module _ {S : Type 0} {d : Ghosts S} (written flushed target : S → Option (Lis
     pub keeps_are : origin.keeps ≡ plan.keep_lines
     pub layout_is : t.layout ≡ layout_of plan left.vars limit
     pub pass : IsPassOf t p
-    pub me : p.me ≡ (first_view t.layout (begun_with formula.clauses t.layout (before_round (was.past ++ was.mine) left) left.start.items left.units.items) origin, [])
+    pub me : p.me ≡ (first_view t.layout (begun_with formula.clauses t.layout (has_hints plan.format) (before_round (was.past ++ was.mine) left) left.start.items left.units.items) origin, [])
     pub cells_are : cells ≡ addresses p.me.0.opening.starts
 
   -- the search over such a table, on so many variables and with this stack, has come to this answer; before it the rings had counted

@@ -22,7 +22,7 @@ pub struct Plan {
     pub rounds: u32,
     /// Whether each round may add variables that stand for two literals, if fewer clauses do then.
     pub additions: bool,
-    /// How the lines of the log are spelled. A proof with hints isn't written yet: the format is one without.
+    /// How the lines of the log are spelled: with hints only if no round may add variables.
     pub format: ProofFormat,
     /// Whether the lines of the log are kept, for a check.
     pub keep_lines: bool,

@@ -1,5 +1,6 @@
 // The ports of the rings, made over their passes.
 ghost use Rattle.std.specs.Prelude.{◌≡◌, ◌≤◌, ◌<◌, ℕ, true, slice_index_or, ◌+◌, ◌++◌, [], ◌∷◌, All, length, IfOk, IfErr, None, vec_capacity};
+ghost use Rattle.sat_words.specs.Formats.{has_hints};
 ghost use Rattle.share_rule.specs.FirstWords.{addresses};
 ghost use Rattle.share_rule.specs.Passes.{IsPassOf};
 ghost use Rattle.share_rule.specs.Steps.{new_part};
@@ -54,6 +55,7 @@ fn make_port<'a, S: Sink, G: Gate, H>(
     pass: Pass<Book<S>>,
 ) -> Result<RingJob<RingPass<'a, S, G, H>>, AllocFailed<Pass<Book<S>>>>
     requires pass { IsAtRest table.now pass × (pass.me.0.stop ≡ None) × (pass.me.0.looks ≡ 0) }
+    requires hinted { pass.me.0.opening.hinted ≡ has_hints plan.now.format }
     requires granted { pass.me.0.parts ≡ new_part pass.me.0.opening ring ∷ [] }
     requires start { start.now ≡ addresses pass.me.0.opening.starts }
     ensures made { IfOk result (λ made. IsMade pass.me.0 (home_of pass) plan.now ring made) }
@@ -63,7 +65,8 @@ fn make_port<'a, S: Sink, G: Gate, H>(
     let Ok(job) = job_of(alloc, table, start, plan, ring) else {
         return Err(AllocFailed { value: pass });
     };
-    let port = RingPass::new(alloc, table, gate, rt, pass, ring, start)?;
+    let hinted = plan.format.has_hints();
+    let port = RingPass::new(alloc, table, gate, rt, pass, ring, hinted, start)?;
     Ok(RingJob {
         port,
         job,
@@ -131,6 +134,7 @@ pub(crate) fn make_ports<'a, S: Sink, G: Gate, H>(
     requires first { IsPassOf table.now first.now }
     requires passes { AreBegun table.now first.now.me.0 passes.items }
     requires many { length passes.items ≤ 16 }
+    requires hinted { first.now.me.0.opening.hinted ≡ has_hints plan.now.format }
     requires start { start.now ≡ addresses first.now.me.0.opening.starts }
     ensures many { IfOk result (λ made. length made.items ≡ length passes.items) }
     ensures made { IfOk result (λ made. AreMade first.now.me.0 (home_of first.now) plan.now made.items) }

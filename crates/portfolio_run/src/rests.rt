@@ -1,7 +1,7 @@
 // What the ruler does with what a round's table held: it deletes some clauses, and goes on with the others.
-ghost use Rattle.std.specs.Prelude.{◌≡◌, false, List, filter, IfOk, IfErr, OnOk};
-ghost use Rattle.sat_words.specs.Formats.{has_hints};
+ghost use Rattle.std.specs.Prelude.{◌≡◌, true, false, List, filter, IfOk, IfErr, OnOk};
 ghost use Rattle.rup_model.specs.declared.journal.Entry.{Entry};
+ghost use Rattle.sat_words.specs.Formats.{has_hints};
 ghost use Rattle.log_book.specs.Books.{told_of};
 ghost use Rattle.portfolio_run.specs.Resumed.{is_dropped, kept_of, TookLines, TookFront, AreLeftAfter, WentOn};
 ghost use Rattle.portfolio_run.specs.Ruled.{schedule_of};
@@ -11,11 +11,11 @@ use drat_text::{LineOut, LineStop};
 use io_edge::Sink;
 use log_book::Book;
 use model_stack::Stack;
-use ruler_simp::{Outcome, Schedule, again};
+use ruler_simp::{Outcome, Schedule, again, with_units};
 use sat_words::{Clause, Formula, Lit};
 use share_rule::{Ledger, Rest};
 use simp_base::LogEnd;
-use std::alloc::Global;
+use std::alloc::{AllocError, Global};
 
 /// The greatest glue of a clause that the ruler goes on with after a round (Audemard and Simon 2009).
 pub const KEPT_GLUE: u32 = 2;
@@ -58,18 +58,22 @@ pub(crate) fn resume<S: Sink>(
     plan: &Plan,
     vars: u32,
     rests: Vec<Rest>,
-    units: Vec<Lit>,
+    units: Vec<(Lit, u64)>,
     stack: Stack,
     book: Book<S>,
 ) -> (Result<Outcome, LineStop>, Book<S>)
     requires unspent { book.log.lines.spent ≡ false }
-    requires plain { has_hints book.log.lines.format ≡ false }
+    requires plain { (schedule_of plan.now).additions ≡ true → has_hints book.log.lines.format ≡ false }
     requires left { (J : List Entry) × AreLeftAfter formula.now.clauses vars rests.items units.items stack (told_of S.written S.flushed S.target S.faults book) J }
     ensures { WentOn formula.now.clauses (schedule_of plan.now) vars rests.items units.items stack (told_of S.written S.flushed S.target S.faults book) (told_of S.written S.flushed S.target S.faults result.1) result.0 }
 {
     let mut book = book;
     match drop_rests(alloc, rests, &mut book) {
-        Ok(clauses) => {
+        Ok(kept) => {
+            let clauses = match with_units(alloc, kept, units.as_slice()) {
+                Ok(clauses) => clauses,
+                Err(AllocError) => return (Err(LineStop::Memory), book),
+            };
             let end = LogEnd {
                 entries: book.entries(),
                 last: book.last(),

@@ -108,7 +108,7 @@ fn pause<S: Sink>(
     requires spent { WasSpent S.written S.flushed S.target S.faults known plan.now formula.now vars stack tally.items done table first }
     requires more { done < plan.now.conflicts }
     requires none { counts.items ≡ replicate plan.now.threads no_counts }
-    requires plain { has_hints plan.now.format ≡ false }
+    requires plain { plan.now.additions ≡ true → has_hints plan.now.format ≡ false }
     ensures paused { IfOk result (λ q. IsPaused (pause_of S.written S.flushed S.target S.faults known plan.now formula.now q.left q.tally.items q.done q.book)) }
     ensures same { IfOk result (λ q. (q.done ≡ done) × (q.counts.items ≡ counts.items)) }
     ensures over { IfErr result (λ e. HasReached S.written S.flushed S.target S.faults known plan.now formula.now e.answer e.tally.items e.book) }
@@ -178,7 +178,7 @@ fn run_table<S: Sink + Send, G: Gate + Sync, H: Threads + Wait + Sync>(
     requires empty { IsEmptyWhereTold (S.written known) }
     requires opened { IsOpened S.written S.flushed S.target S.faults known plan.now formula.now left tally.items done limit opened.0 opened.1 opened.2.items }
     requires none { counts.items ≡ replicate plan.now.threads no_counts }
-    requires plain { has_hints plan.now.format ≡ false }
+    requires plain { plan.now.additions ≡ true → has_hints plan.now.format ≡ false }
     ensures paused { IfOk result (λ q. IsPaused (pause_of S.written S.flushed S.target S.faults known plan.now formula.now q.left q.tally.items q.done q.book)) }
     ensures none { IfOk result (λ q. q.counts.items ≡ replicate plan.now.threads no_counts) }
     ensures more { IfOk result (λ q. (done < q.done) × (q.done ≤ plan.now.conflicts)) }
@@ -238,7 +238,7 @@ fn run_noted<S: Sink + Send, G: Gate + Sync, H: Threads + Wait + Sync>(
     requires paused { IsPausedAt (pause_of S.written S.flushed S.target S.faults known.0 plan.now formula.now paused.left paused.tally.items paused.done paused.book) known.3 }
     requires same { (paused.tally.items ≡ known.1) × (paused.done ≡ known.2) }
     requires none { paused.counts.items ≡ replicate plan.now.threads no_counts }
-    requires plain { has_hints plan.now.format ≡ false }
+    requires plain { plan.now.additions ≡ true → has_hints plan.now.format ≡ false }
     ensures paused { IfOk result (λ q. IsPaused (pause_of S.written S.flushed S.target S.faults known.0 plan.now formula.now q.left q.tally.items q.done q.book)) }
     ensures none { IfOk result (λ q. q.counts.items ≡ replicate plan.now.threads no_counts) }
     ensures more { IfOk result (λ q. (paused.done < q.done) × (q.done ≤ plan.now.conflicts)) }
@@ -287,7 +287,7 @@ pub(crate) fn run_round<S: Sink + Send, G: Gate + Sync, H: Threads + Wait + Sync
     requires paused { IsPaused (pause_of S.written S.flushed S.target S.faults known.0 plan.now formula.now paused.left paused.tally.items paused.done paused.book) }
     requires is { known.1 ≡ pause_of S.written S.flushed S.target S.faults known.0 plan.now formula.now paused.left paused.tally.items paused.done paused.book }
     requires none { paused.counts.items ≡ replicate plan.now.threads no_counts }
-    requires plain { has_hints plan.now.format ≡ false }
+    requires plain { plan.now.additions ≡ true → has_hints plan.now.format ≡ false }
     ensures paused { IfOk result (λ q. IsPaused (pause_of S.written S.flushed S.target S.faults known.0 plan.now formula.now q.left q.tally.items q.done q.book)) }
     ensures none { IfOk result (λ q. q.counts.items ≡ replicate plan.now.threads no_counts) }
     ensures more { IfOk result (λ q. (paused.done < q.done) × (q.done ≤ plan.now.conflicts)) }

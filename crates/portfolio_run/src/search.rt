@@ -1,5 +1,6 @@
 // The rings over an open table, run at once, and the answer that their ends come to.
 ghost use Rattle.std.specs.Prelude.{◌≡◌, ◌≤◌, [], None, All, length, IfOk, vec_capacity};
+ghost use Rattle.sat_words.specs.Formats.{has_hints};
 ghost use Rattle.share_rule.specs.FirstWords.{addresses};
 ghost use Rattle.ring_pass.specs.RingState.{home_of};
 ghost use Rattle.portfolio_run.specs.Jobs.{IsReady};
@@ -111,6 +112,7 @@ pub(crate) fn search<S: Sink + Send, G: Gate + Sync, H: Threads + Wait + Sync>(
 ) -> Answer
     requires first { HasRightsFrom table.now first.old 0 }
     requires rings { (first.old.me.0.opening.rings ≡ plan.now.threads) × (1 ≤ plan.now.threads) × (plan.now.threads ≤ 16) }
+    requires hinted { first.old.me.0.opening.hinted ≡ has_hints plan.now.format }
     requires start { start.now ≡ addresses first.old.me.0.opening.starts }
     requires more { formula.now.vars ≤ table.now.layout.vars }
     requires fits { All (λ fix. fix.lit.var ≤ table.now.layout.vars) stack.now }

@@ -1,5 +1,5 @@
 // The call: a formula is decided by rings on threads of their own.
-ghost use Rattle.std.specs.Prelude.{◌≡◌, ◌≢◌, ◌≤◌, ◌^◌, ◌⊎◌, false, All, [], replicate, length, IfSome};
+ghost use Rattle.std.specs.Prelude.{◌≡◌, ◌≢◌, ◌≤◌, ◌^◌, ◌⊎◌, true, false, All, [], replicate, length, IfSome};
 ghost use Rattle.std.specs.Option.{option_map};
 ghost use Rattle.io_edge.specs.Paths.{IsEmptyWhereTold};
 ghost use Rattle.sat_words.specs.Formats.{has_hints};
@@ -67,7 +67,7 @@ fn solve_left<S: Sink + Send, G: Gate + Sync, H: Threads + Wait + Sync>(
     requires empty { IsEmptyWhereTold (S.written known) }
     requires paused { IsPaused (pause_of S.written S.flushed S.target S.faults known plan.now formula.now paused.left paused.tally.items paused.done paused.book) }
     requires none { paused.counts.items ≡ replicate plan.now.threads no_counts }
-    requires plain { has_hints plan.now.format ≡ false }
+    requires plain { plan.now.additions ≡ true → has_hints plan.now.format ≡ false }
     ensures solved { IsSolved plan.now formula.now result.answer result.tally.items (S.faults known) (S.faults result.sink) (S.flushed result.sink) (S.written result.sink) (option_map (λ v. v.items) result.lines) }
     ensures target { S.target result.sink ≡ S.target known }
     ensures counted { length result.tally.items ≡ plan.now.threads }
@@ -109,7 +109,7 @@ fn solve_counted<S: Sink + Send, G: Gate + Sync, H: Threads + Wait + Sync>(
     requires on { All (All (IsOn formula.now.vars)) formula.now.clauses }
     requires empty { IsEmptyWhereTold (S.written given) }
     requires none { (tally.items ≡ replicate plan.now.threads no_counts) × (counts.items ≡ replicate plan.now.threads no_counts) }
-    requires plain { has_hints plan.now.format ≡ false }
+    requires plain { plan.now.additions ≡ true → has_hints plan.now.format ≡ false }
     ensures solved { IsSolved plan.now formula.now result.answer result.tally.items (S.faults given) (S.faults result.sink) (S.flushed result.sink) (S.written result.sink) (option_map (λ v. v.items) result.lines) }
     ensures target { S.target result.sink ≡ S.target given }
     ensures counted { result.answer ≢ answer.Memory → length result.tally.items ≡ plan.now.threads }
@@ -163,7 +163,7 @@ pub fn solve<S: Sink + Send, G: Gate + Sync, H: Threads + Wait + Sync>(
     requires few { formula.now.vars ≤ 2 ^ 30 }
     requires on { All (All (IsOn formula.now.vars)) formula.now.clauses }
     requires empty { IsEmptyWhereTold (S.written sink) }
-    requires plain { has_hints plan.now.format ≡ false }
+    requires plain { plan.now.additions ≡ true → has_hints plan.now.format ≡ false }
     ensures solved { IsSolved plan.now formula.now result.answer result.tally.items (S.faults sink) (S.faults result.sink) (S.flushed result.sink) (S.written result.sink) (option_map (λ v. v.items) result.lines) }
     ensures target { S.target result.sink ≡ S.target sink }
     ensures counted { result.answer ≢ answer.Memory → length result.tally.items ≡ plan.now.threads }

@@ -38,11 +38,11 @@ may_add v J Derive lits k h = h
 may_add v J UnitLine lits k h = h
 
 -- so it may be added next, in a turn that has nothing
-pub may_add_next : {S : Type 0} {d : Ghosts S} (v w : View) (t : Turn S d) (J : List Entry) (failed : Bool) (kind : Kind) (lits : List Literal) → HasTurn v w J failed → t.noted.items ≡ [] → MayAddClause v.opening J (only v).core (only v).core.ring kind lits → IsLong lits → follows (only v).core lits ≡ true → InVars v.layout lits → MayAdd w t kind lits
-may_add_next {S} {d} v w t J failed kind lits h none may long knows on =
+pub may_add_next : {S : Type 0} {d : Ghosts S} (v w : View) (t : Turn S d) (J : List Entry) (failed : Bool) (kind : Kind) (lits : List Literal) (hints : List ℕ) → HasTurn v w J failed → t.noted.items ≡ [] → MayAddClause v.opening J (only v).core (only v).core.ring kind lits → IsLong lits → follows v.opening.hinted (only v).core lits hints ≡ true → InVars v.layout lits → MayAdd w t kind lits hints
+may_add_next {S} {d} v w t J failed kind lits hints h none may long knows on =
     let ring : (only w).core.ring ≡ (only v).core.ring = ap (λ (p : RingPart). p.core.ring) (only_is w (take_part J failed (only v)) h.parts) in
     let is : sheet w t ≡ sheet_with J (only v) = ap (written_of w) none ∙ sheet_taken v w J failed [] h in
-    subst (λ (y : Layout × CoreOpening × ℕ × Sheet). MayAddClause y.1 y.3.journal y.3.part y.2 kind lits × IsLong lits × (follows y.3.part lits ≡ true) × InVars y.0 lits) (λ i. (sym h.layout i, sym h.opening i, sym ring i, sym is i)) (may, long, knows, on)
+    subst (λ (y : Layout × CoreOpening × ℕ × Sheet). MayAddClause y.1 y.3.journal y.3.part y.2 kind lits × IsLong lits × (follows y.1.hinted y.3.part lits hints ≡ true) × InVars y.0 lits) (λ i. (sym h.layout i, sym h.opening i, sym ring i, sym is i)) (may, long, knows, on)
 
 -- Results
 
@@ -58,10 +58,10 @@ err_is {T} {E} P r x e h = subst (λ (y : Result T E). IfErr y P) e h
 
 -- The line
 
-pub wrote_clause : {S : Type 0} {d : Ghosts S} {written flushed target : S → Option (List ℕ)} {faults : S → ℕ} {v w : View} {t t' : Turn S d} (u : View) (kind : Kind) (lits : List Literal) (glue a number : ℕ) → v.parts ≡ only v ∷ [] → (h : WasTaken written flushed target faults v w t) → Seen w
-    → Grown written flushed target faults w t t' (Clause kind lits glue a) → u ≡ after_give t'.noted.items t'.refused t'.book.log.lines.spent w → number ≡ t'.book.log.lines.last → WroteClause v u kind lits glue a number
-wrote_clause {S} {d} {written} {flushed} {target} {faults} {v} {w} {t} {t'} u kind lits glue a number one h s g is numbered =
-    let n : Note = Clause kind lits glue a in
+pub wrote_clause : {S : Type 0} {d : Ghosts S} {written flushed target : S → Option (List ℕ)} {faults : S → ℕ} {v w : View} {t t' : Turn S d} (u : View) (kind : Kind) (lits : List Literal) (hints : List ℕ) (glue a number : ℕ) → v.parts ≡ only v ∷ [] → (h : WasTaken written flushed target faults v w t) → Seen w
+    → Grown written flushed target faults w t t' (Clause kind lits hints glue a) → u ≡ after_give t'.noted.items t'.refused t'.book.log.lines.spent w → number ≡ t'.book.log.lines.last → WroteClause v u kind lits hints glue a number
+wrote_clause {S} {d} {written} {flushed} {target} {faults} {v} {w} {t} {t'} u kind lits hints glue a number one h s g is numbered =
+    let n : Note = Clause kind lits hints glue a in
     let has = turn_taken one h in
     let J : List Entry = h.taken.book.journal in
     let e : Entry = entry_of v.opening (only v).core.ring J (only v).core n in

@@ -32,6 +32,7 @@ use Rattle.ring_pass.specs.RingState.{Own, holding_of, port_with, port_of, home_
 use Rattle.ring_pass.specs.Writes.{entries_of, sheet_with}
 use Rattle.ring_pass.proofs.PollsHere.{port_step}
 use Rattle.ring_pass.proofs.RingPorts.{rings_here}
+use Rattle.ring_pass.proofs.NumbersHere.{numbers_keep}
 use Rattle.ring_pass.proofs.Stays.{only_is, one_is, units_keep}
 use Rattle.ring_pass.proofs.TurnsHere.{refused_here, room_refused, units_refused, ring_turns, end_refused, fault_refused, fault_alone, answer_here}
 use Rattle.std.specs.Option.{option_map}
@@ -137,6 +138,8 @@ own_deleted v o p home core end fail refused hs wrote own = record {
 pub ring_deleted : {B : Type 0} {t : Shared B} {p : Seat (Option B) View} {n : ℕ} {st : List Cref} {o : Own} (q : Seat (Option B) View) (k : ℕ) → IsRingPass t p n st o → IsPassOf t q → q.id ≡ p.id → q.me.1 ≡ [] → Deleted p.me.0 q.me.0 k → IsRingPass t q n st (record o { home = home_of q })
 ring_deleted {B} {t} {p} {n} {st} {o} q k r pass id slots d = ring_turns q d.part (record o { home = home_of q }) r pass id slots d.opening d.parts (ap (λ (c : Part). c.ring) d.core) d.turn refl (own_deleted p.me.0 o d.part (home_of q) d.core d.ended_is d.failed_is d.refused (take k (only p.me.0).core.waiting) d.wrote r.own)
     (λ lone e. r.alone_is lone (d.failed_was e))
+    refl
+    (numbers_keep (ap (λ (c : Part). c.seen) d.core) (ap (λ (c : Part). c.numbers) d.core) refl)
 
 -- fewer wait, in as much room
 pub room_deleted : (v w : View) (k : ℕ) (last : Option Cref) (ws ws' : List Waiting) (room room' : ℕ) → Deleted v w k → ws' ≡ drop k ws → room' ≡ room → HasRoom (only v) v.opening.rings last ws room → HasRoom (only w) w.opening.rings last ws' room'
@@ -195,6 +198,8 @@ ring_some {B} {t} {p} {n} {st} {o} q many k e kept over r usable pass id slots d
     ring_turns q (give_part m.opening (sheet_with w.journal (only m)) w.refused w.failed (only m)) (record o { refused = kept; ended = over; home = home_of q }) r pass id slots (w.gave.opening ∙ d.first.opening) w.gave.parts ring refl refl
     (record { passed = own.passed; distinct = own.distinct; told = own.told; taken = own.taken; ended_is = λ x. end_refused m o w.journal e own w.why (sym b ∙ x); refused_is = a ∙ answer_here m q.me.0 o e own w; faulty_is = λ x. fault_refused m q.me.0 o e own w (ap is_usable (sym a) ∙ x); making = own.making; listed = own.listed })
     (λ lone f. ap is_usable a ∙ fault_alone m q.me.0 o e usable (λ f'. r.alone_is lone (d.first.failed_was (ap (λ (x : RingPart). x.failed) (sym (only_is m d.first.part d.first.parts)) ∙ f'))) w (ap (λ (x : CoreOpening). x.rings) d.first.opening ∙ lone) f)
+    refl
+    (numbers_keep (ap (λ (x : RingPart). x.core.seen) (only_is m d.first.part d.first.parts) ∙ ap (λ (c : Part). c.seen) d.first.core) (ap (λ (x : RingPart). x.core.numbers) (only_is m d.first.part d.first.parts) ∙ ap (λ (c : Part). c.numbers) d.first.core) refl)
 
 pub room_some : (v u : View) (many k : ℕ) (e : TurnStop) (last : Option Cref) (ws ws' : List Waiting) (room room' : ℕ) → DeletedSome v u many k e → ws' ≡ drop k ws → room' ≡ room → HasRoom (only v) v.opening.rings last ws room → HasRoom (only u) u.opening.rings last ws' room'
 room_some v u many k e last ws ws' room room' d is same m = room_refused d.middle u e last ws' room' d.refused (room_deleted v d.middle k last ws ws' room room' d.first is same m)

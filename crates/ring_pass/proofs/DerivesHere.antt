@@ -30,7 +30,7 @@ use Rattle.share_rule.specs.Layout.{InVars}
 use Rattle.share_rule.specs.Passes.{IsPassOf}
 use Rattle.share_rule.specs.Views.{only, clause_in, clause_of, glue_in}
 use Rattle.share_rule.proofs.Lists.{first_at}
-use Rattle.ring_port.specs.Port.{IsClause, IsPartOfHeld, IsFreeAddress, AddedClause, KeepsHeld, Refused, after_refusal, last_after}
+use Rattle.ring_port.specs.Port.{IsClause, EndsWith, IsPartOfHeld, IsFreeAddress, AddedClause, KeepsHeld, Refused, after_refusal, last_after}
 use Rattle.ring_port.specs.Port as port
 use Rattle.ring_port.specs.declared.stops.PortStop.{PortStop}
 use Rattle.ring_port.specs.declared.stops.PortStop.TheVariants.{Ended, Broken, ProofFault, NoHole, Memory}
@@ -40,6 +40,8 @@ use Rattle.ring_pass.specs.declared.spares.Spares.{Spares}
 use Rattle.ring_pass.specs.declared.waiting.Waiting.{Waiting}
 use Rattle.ring_pass.specs.Adding.{Added, clause_with, placed_line}
 use Rattle.ring_pass.specs.RingState.{Own, port_with, port_of, home_of, holding_of, IsOwn, IsRingPass, HasRoom, HasUnits, CanOffer, AreShort}
+use Rattle.ring_pass.proofs.NumbersHere.{numbers_keep}
+use Rattle.ring_pass.proofs.EndsHere.{ends_here}
 use Rattle.ring_pass.proofs.OffersHere.{first_front}
 use Rattle.ring_pass.proofs.PollsHere.{port_step, map_last, map_same}
 use Rattle.ring_pass.proofs.NextPlaces.{places_stay}
@@ -86,7 +88,7 @@ on_here v o s lits view c =
 
 -- The port
 
-module _ (v w : View) (o : Own) (home : List ℕ) (lits : List Literal) (glue : ℕ) (c : Cref) (kind : Kind) (last : Option Cref) (f : Added v w kind lits glue c.address) where
+module _ (v w : View) (o : Own) (home : List ℕ) (lits : List Literal) (glue : ℕ) (c : Cref) (kind : Kind) (last : Option Cref) (hints : List ℕ) (f : Added v w kind lits hints glue c.address) where
   clause : ClauseAt
   clause = clause_with c.address f.number lits
 
@@ -123,6 +125,7 @@ module _ (v w : View) (o : Own) (home : List ℕ) (lits : List Literal) (glue : 
   pub added_here : IsOwn (only v) o → 2 ≤ length lits → home ≡ o.home → option_map (λ (x : Cref). x.address) last ≡ last_after kind (option_map (λ (x : Cref). x.address) o.last) c.address → AddedClause (port_of v o) (port_of w (record o { last = last; home = home })) lits glue kind c
   added_here own long hm lm = record {
     number = f.number;
+    hints = hints;
     going = by o.ended own.ended_is;
     long = long;
     free = record { not_held = nothing_here v o c.address f.not_held; not_waiting = none_waits (only v).glues (only v).core.waiting c.address f.not_waiting };
@@ -134,7 +137,7 @@ module _ (v w : View) (o : Own) (home : List ℕ) (lits : List Literal) (glue : 
           last = lm i;
           ticket = ticket_as kind (only v).core.ticket i;
           waiting = map_same (only v).glues (record { number = f.number; glue = glue } ∷ (only v).glues) (only v).core.waiting (glues_keep f.number glue (only v).glues (only v).core.waiting f.waiting_apart) i;
-          mine = mine_last (only v).core.wrote (placed_line f.place (only v).core.ring f.number lits kind) i;
+          mine = mine_last (only v).core.wrote (placed_line f.place (only v).core.ring f.number lits kind hints) i;
         });
   }
     where
@@ -160,14 +163,21 @@ refused_keeps {s} {t} {stop} is a h = ap (λ (x : PortState). held_at x a) is.st
     by out Memory = refl
 
 -- as a call tells it
-pub added_as : {v w : View} (o : Own) (s : PortState) (home : List ℕ) (lits : List Literal) (glue : ℕ) (c : Cref) (kind : Kind) (last : Option Cref) → port_of v o ≡ s → IsOwn (only v) o → 2 ≤ length lits → Added v w kind lits glue c.address → home ≡ o.home
+pub added_as : {hints : List ℕ} {v w : View} (o : Own) (s : PortState) (home : List ℕ) (lits : List Literal) (glue : ℕ) (c : Cref) (kind : Kind) (last : Option Cref) → port_of v o ≡ s → IsOwn (only v) o → 2 ≤ length lits → Added v w kind lits hints glue c.address → home ≡ o.home
     → option_map (λ (x : Cref). x.address) last ≡ last_after kind (option_map (λ (x : Cref). x.address) o.last) c.address → AddedClause s (port_of w (record o { last = last; home = home })) lits glue kind c
-added_as {v} {w} o s home lits glue c kind last view own long f hm lm = subst (λ (y : PortState). AddedClause y (port_of w (record o { last = last; home = home })) lits glue kind c) view (added_here v w o home lits glue c kind last f own long hm lm)
+added_as {hints} {v} {w} o s home lits glue c kind last view own long f hm lm = subst (λ (y : PortState). AddedClause y (port_of w (record o { last = last; home = home })) lits glue kind c) view (added_here v w o home lits glue c kind last hints f own long hm lm)
+
+-- its line is the ring's last
+pub added_ends : {v w : View} {kind : Kind} {lits : List Literal} {hints : List ℕ} {glue a : ℕ} → Added v w kind lits hints glue a → (o : Own) → EndsWith (port_of w o) hints
+added_ends {v} {w} {kind} {lits} {hints} {glue} {a} f o =
+    let now = only_is w f.part f.parts in
+    let ring : (only v).core.ring ≡ (only w).core.ring = sym (ap (λ (p : RingPart). p.core.ring) now ∙ ap (λ (q : Part). q.ring) f.core) in
+    ends_here w o (only v).core.wrote f.place f.number lits kind hints (ap (λ (p : RingPart). p.core.wrote) now ∙ ap (λ (q : Part). q.wrote) f.core ∙ (λ i. (only v).core.wrote ++ placed_line f.place (ring i) f.number lits kind hints ∷ []))
 
 -- For a ring with its pass
 
-pub ring_adds : {B : Type 0} {t : Shared B} {p : Seat (Option B) View} {n : ℕ} {st : List Cref} {o : Own} (q : Seat (Option B) View) (kind : Kind) (lits : List Literal) (glue a : ℕ) (last : Option Cref) → IsRingPass t p n st o → IsPassOf t q → q.id ≡ p.id → q.me.1 ≡ [] → Added p.me.0 q.me.0 kind lits glue a → IsLong lits → IsRingPass t q n st (record o { last = last; home = home_of q })
-ring_adds {B} {t} {p} {n} {st} {o} q kind lits glue a last r pass id slots f long =
+pub ring_adds : {hints : List ℕ} {B : Type 0} {t : Shared B} {p : Seat (Option B) View} {n : ℕ} {st : List Cref} {o : Own} (q : Seat (Option B) View) (kind : Kind) (lits : List Literal) (glue a : ℕ) (last : Option Cref) → IsRingPass t p n st o → IsPassOf t q → q.id ≡ p.id → q.me.1 ≡ [] → Added p.me.0 q.me.0 kind lits hints glue a → IsLong lits → IsRingPass t q n st (record o { last = last; home = home_of q })
+ring_adds {hints} {B} {t} {p} {n} {st} {o} q kind lits glue a last r pass id slots f long =
     let h : ClauseAt = clause_with a f.number lits in
     ring_turns q f.part (record o { last = last; home = home_of q }) r pass id slots f.opening f.parts (ap (λ (k : Part). k.ring) f.core) f.turn refl (record {
       passed = r.own.passed;
@@ -179,18 +189,20 @@ ring_adds {B} {t} {p} {n} {st} {o} q kind lits glue a last r pass id slots f lon
       refused_is = r.own.refused_is ∙ ap (option_map answer_noted) (sym f.refused);
       faulty_is = λ e. f.failed_is (r.own.faulty_is e);
       making = f.built r.own.making;
-      listed = listed_last (only p.me.0) f.part (placed_line f.place (only p.me.0).core.ring f.number lits kind) (ap (λ (k : Part). k.wrote) f.core) (ap (λ (k : Part). k.seen) f.core) (long_none lits long) r.own.listed;
+      listed = listed_last (only p.me.0) f.part (placed_line f.place (only p.me.0).core.ring f.number lits kind hints) (ap (λ (k : Part). k.wrote) f.core) (ap (λ (k : Part). k.seen) f.core) (long_none lits long) r.own.listed;
     })
     (λ _ e. absurd (true≢false (sym e ∙ f.whole)))
+    refl
+    (numbers_keep (ap (λ (k : Part). k.seen) f.core) (ap (λ (k : Part). k.numbers) f.core) refl)
 
-pub room_adds : (v w : View) (kind : Kind) (lits : List Literal) (glue a : ℕ) (last : Option Cref) (ws : List Waiting) (room : ℕ) → Added v w kind lits glue a → HasRoom (only v) v.opening.rings last ws room → HasRoom (only w) w.opening.rings last ws room
-room_adds v w kind lits glue a last ws room f m =
-    let long = length-append (only v).core.wrote (placed_line f.place (only v).core.ring f.number lits kind ∷ []) in
+pub room_adds : {hints : List ℕ} (v w : View) (kind : Kind) (lits : List Literal) (glue a : ℕ) (last : Option Cref) (ws : List Waiting) (room : ℕ) → Added v w kind lits hints glue a → HasRoom (only v) v.opening.rings last ws room → HasRoom (only w) w.opening.rings last ws room
+room_adds {hints} v w kind lits glue a last ws room f m =
+    let long = length-append (only v).core.wrote (placed_line f.place (only v).core.ring f.number lits kind hints ∷ []) in
     let wrote = ap (λ (k : Part). length k.wrote) f.core in
     room_turns v w f.part last ws room f.opening f.parts (ap (λ (k : Part). k.waiting) f.core) (ap (λ (k : Part). k.shared) f.core) (omega arith) m
 
-pub units_adds : (v w : View) (kind : Kind) (lits : List Literal) (glue a : ℕ) (seen : List Literal) (x y : ℕ) → Added v w kind lits glue a → HasUnits (only v) v.layout.vars seen x y → HasUnits (only w) w.layout.vars seen x y
-units_adds v w kind lits glue a seen x y f m = units_turns v w f.part seen x y f.layout f.parts (ap (λ (k : Part). k.seen) f.core) m
+pub units_adds : {hints : List ℕ} (v w : View) (kind : Kind) (lits : List Literal) (glue a : ℕ) (seen : List Literal) (x y : ℕ) → Added v w kind lits hints glue a → HasUnits (only v) v.layout.vars seen x y → HasUnits (only w) w.layout.vars seen x y
+units_adds {hints} v w kind lits glue a seen x y f m = units_turns v w f.part seen x y f.layout f.parts (ap (λ (k : Part). k.seen) f.core) m
 
 -- the next offer's clause is held still
 next_stays : (hs : List ClauseAt) (h : ClauseAt) (longest : ℕ) (last : Option Cref) → IfSome last (λ c. (0 < times_at c.address hs) × (length (clause_in c.address hs).lits ≤ longest))
@@ -201,8 +213,8 @@ next_stays hs h longest (Some c) next =
     let some = next.0 in
     (omega arith, subst (λ (k : ClauseAt). length k.lits ≤ longest) (sym (first_front c.address hs (h ∷ []) next.0)) next.1)
 
-pub offer_adds : (v w : View) (kind : Kind) (lits : List Literal) (glue a : ℕ) (last : Option Cref) (s : Spares) → Added v w kind lits glue a → CanOffer (only v) v.opening last s → CanOffer (only w) w.opening last s
-offer_adds v w kind lits glue a last s f r =
+pub offer_adds : {hints : List ℕ} (v w : View) (kind : Kind) (lits : List Literal) (glue a : ℕ) (last : Option Cref) (s : Spares) → Added v w kind lits hints glue a → CanOffer (only v) v.opening last s → CanOffer (only w) w.opening last s
+offer_adds {hints} v w kind lits glue a last s f r =
     subst (λ (o : CoreOpening). CanOffer (only w) o last s) (sym f.opening) (subst (λ (y : RingPart). CanOffer y v.opening last s) (sym (only_is w f.part f.parts)) (record {
       buffers = r.buffers;
       enough = r.enough;

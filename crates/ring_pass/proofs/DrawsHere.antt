@@ -80,6 +80,8 @@ ring_drew {B} {t} {p} {n} {st} {o} q found r pass same is =
       listed = r.own.listed;
     })
     r.alone_is
+    refl
+    (λ m. m)
 
 pub room_drew : (v w : View) (found : ℕ) (last : Option Cref) (ws : List Waiting) (room : ℕ) → v.parts ≡ only v ∷ [] → w ≡ after_draw found v → HasRoom (only v) v.opening.rings last ws room → HasRoom (only w) w.opening.rings last ws room
 room_drew v w found last ws room one is m = room_turns v w (draw_part v.opening.limit found (only v)) last ws room (ap (λ (u : View). u.opening) is) (drew_part_is v w found one is) refl refl (omega arith) m

@@ -111,7 +111,7 @@ pub ring_drops : {B : Type 0} {t : Shared B} {p : Seat (Option B) View} {n : ℕ
     → All (λ (c : Cref). c.address ≢ a) o.taken → IsRingPass t q n st (record o { last = last; home = home_of q })
 ring_drops {B} {t} {p} {n} {st} {o} q a m last r pass same is has apart =
     ring_changes q (drop_part a m (only p.me.0)) (record o { last = last; home = home_of q }) r pass same (ap (λ (u : View). u.opening) is) (one_changed (drop_part a m) p.me.0 q.me.0 r.one (ap (λ (u : View). u.parts) is)) refl refl refl
-    (own_drops (only p.me.0) o a m last (home_of q) has apart r.own) r.alone_is
+    (own_drops (only p.me.0) o a m last (home_of q) has apart r.own) r.alone_is refl (λ m. m)
 
 pub port_drops : {B : Type 0} {t : Shared B} {p : Seat (Option B) View} {n : ℕ} {st : List Cref} {o : Own} (q : Seat (Option B) View) (s : PortState) (a m : ℕ) (last : Option Cref) → last ≡ unless_cell o.last a → IsRingPass t p n st o → IsPassOf t q → port_of p.me.0 o ≡ s → q.me.0 ≡ after_drop a m p.me.0 → 0 < times_at a (only p.me.0).core.held
     → (p.me.0.opening.rings ≡ 1 → m ≢ 1 → times_at a (only p.me.0).core.held ≢ 1) → DroppedOnce s (port_of q.me.0 (record o { last = last; home = home_of q })) a

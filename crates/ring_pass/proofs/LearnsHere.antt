@@ -49,11 +49,11 @@ may_learn_here v o s lits view ticket h =
 
 -- Room
 
-pub room_learns : (v w : View) (seen : Seen v) (lits : List Literal) (glue : ℕ) (c : Cref) (last : Option Cref) (ws ws' : List Waiting) (room room' : ℕ) → Added v w Learn lits glue c.address → ws' ≡ ws → length ws' + v.opening.rings ≤ room' → HasRoom (only v) v.opening.rings last ws room → HasRoom (only w) w.opening.rings (Some c) ws' room'
-room_learns v w seen lits glue c last ws ws' room room' f same large m =
+pub room_learns : {hints : List ℕ} (v w : View) (seen : Seen v) (lits : List Literal) (glue : ℕ) (c : Cref) (last : Option Cref) (ws ws' : List Waiting) (room room' : ℕ) → Added v w Learn lits hints glue c.address → ws' ≡ ws → length ws' + v.opening.rings ≤ room' → HasRoom (only v) v.opening.rings last ws room → HasRoom (only w) w.opening.rings (Some c) ws' room'
+room_learns {hints} v w seen lits glue c last ws ws' room room' f same large m =
     let shared = ap (λ (k : Part). k.shared) f.core in
     let wrote = ap (λ (k : Part). length k.wrote) f.core in
-    let long = length-append (only v).core.wrote (placed_line f.place (only v).core.ring f.number lits Learn ∷ []) in
+    let long = length-append (only v).core.wrote (placed_line f.place (only v).core.ring f.number lits Learn hints ∷ []) in
     let few = m.few in
     let rings = rings_few v seen in
     subst (λ (o : CoreOpening). HasRoom (only w) o.rings (Some c) ws' room') (sym f.opening) (subst (λ (y : RingPart). HasRoom y v.opening.rings (Some c) ws' room') (sym (only_is w f.part f.parts)) (record {
@@ -65,9 +65,9 @@ room_learns v w seen lits glue c last ws ws' room room' f same large m =
 short_more : (n m : ℕ) (hs : List ClauseAt) → n ≤ m → AreShort n hs → AreShort m hs
 short_more n m hs le short = all_map (λ (h : ClauseAt). length h.lits ≤ n) (λ (h : ClauseAt). length h.lits ≤ m) hs (λ h i k. omega arith) short
 
-pub offer_learns : (v w : View) (lits : List Literal) (glue : ℕ) (c : Cref) (last : Option Cref) (s s' : Spares) → Added v w Learn lits glue c.address → All (IsBuffer s'.longest) s'.buffers.items → v.opening.rings - 1 ≤ length s'.buffers.items → length lits ≤ s'.longest → s.longest ≤ s'.longest → s'.places ≡ s.places → CanOffer (only v) v.opening last s
+pub offer_learns : {hints : List ℕ} (v w : View) (lits : List Literal) (glue : ℕ) (c : Cref) (last : Option Cref) (s s' : Spares) → Added v w Learn lits hints glue c.address → All (IsBuffer s'.longest) s'.buffers.items → v.opening.rings - 1 ≤ length s'.buffers.items → length lits ≤ s'.longest → s.longest ≤ s'.longest → s'.places ≡ s.places → CanOffer (only v) v.opening last s
     → CanOffer (only w) w.opening (Some c) s'
-offer_learns v w lits glue c last s s' f buffers enough short longer same r =
+offer_learns {hints} v w lits glue c last s s' f buffers enough short longer same r =
     let h : ClauseAt = clause_with c.address f.number lits in
     let one : one_if (c.address == c.address) ≡ 1 = ap one_if (eq-eqb c.address c.address refl) in
     let both = at_both c.address (only v).core.held (clause_with c.address f.number lits ∷ []) in

@@ -15,6 +15,8 @@ mod ListsHere
 mod MadeHere
 mod NewsHere
 mod NextPlaces
+mod NumbersHere
+mod NumbersSeen
 mod OfferTurns
 mod OfferedHere
 mod OffersHere

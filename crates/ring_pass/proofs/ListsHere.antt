@@ -2,17 +2,17 @@
 use Rattle.io_edge.specs.declared.edge.Sink.{Ghosts}
 use Rattle.std.proofs.Common.{◌≡◌, ℕ, ◌+◌, ◌*◌, ◌<◌, ◌≤◌, ◌==◌, Bool, true, false, ◌||◌, if◌then◌else◌, List, [], ◌∷◌, ◌++◌, map, length, refl, sym, ap, subst, ◌∙◌, inl, inr, arith, Some, None, Option}
 use Rattle.std.specs.Prelude.{IfSome}
-use Rattle.std.specs.List.{All, list_any}
+use Rattle.std.specs.List.{All}
 use Rattle.std.specs.Option.{is_some}
 use Rattle.std.proofs.lemmas.Bool.{false≢true, or_left, or_right}
-use Rattle.std.proofs.lemmas.List.Folds.{list_any-append}
 use Rattle.sat_words.specs.Literal.{Literal, same, code_of}
-use Rattle.sat_words.specs.Clause.{has, distinct_lits, same_set}
+use Rattle.sat_words.specs.Clause.{has, distinct_lits}
 use Rattle.sat_words.proofs.Members.{same-true}
 use Rattle.rup_model.specs.declared.journal.Entry.{Entry}
-use Rattle.rup_model.specs.Journal.{added, ended, is_told, ring_of}
-use Rattle.rup_model.proofs.Additions.{added-append}
-use Rattle.rup_model.proofs.Lists.{In, has_In, In_has, In_append_right}
+use Rattle.rup_model.specs.declared.journal.Addition.{Addition}
+use Rattle.rup_model.specs.declared.journal.Entry.TheVariants.{Add}
+use Rattle.rup_model.specs.Journal.{book, ended, ring_of}
+use Rattle.rup_model.proofs.Lists.{In, has_In, In_has, In_append_right, Contains_In}
 use Rattle.share_core.specs.declared.part.CoreOpening.{CoreOpening}
 use Rattle.share_core.specs.declared.part.Part.{Part}
 use Rattle.share_core.specs.declared.part.Placed.{Placed}
@@ -29,13 +29,15 @@ use Rattle.share_rule.specs.Layout.{InVars}
 use Rattle.share_rule.specs.Seen.{Seen, IsPart, IsRefused}
 use Rattle.share_rule.specs.Steps.{on_first}
 use Rattle.share_rule.specs.Turns.{MayWrite, journal_in, sheet_of, written_of, take_part, give_part, after_give, newer}
-use Rattle.share_rule.specs.Units.{MayPublish, unit_part, list_part, after_unit, after_list}
+use Rattle.share_rule.specs.Units.{MayPublish, unit_part, number_part, list_part, after_unit, after_number, after_list}
 use Rattle.share_rule.specs.Views.{only}
 use Rattle.share_rule.proofs.Listing.{publish_room}
 use Rattle.share_rule.proofs.Moves.{turn_is}
 use Rattle.log_book.specs.declared.turn.Turn.{Turn}
 use Rattle.log_book.specs.Turns.{IsTurn, Stands, sheet}
-use Rattle.ring_pass.specs.Sights.{SawRest, MayList, ListedOne, Listed, wrote_unit}
+use Rattle.ring_pass.specs.Sights.{SawRest, MayList, ListedOne, Listed, HasNumbered}
+use Rattle.ring_pass.specs.Writes.{entries_of}
+use Rattle.unit_share.proofs.Numbered.{unit_numbered}
 use Rattle.ring_pass.specs.RingState.{HasUnits}
 use Rattle.ring_pass.proofs.RingPorts.{part_of}
 use Rattle.ring_pass.proofs.SeenHere.{new_sees, seen_distinct, rest_distinct}
@@ -45,12 +47,12 @@ use Rattle.ring_pass.proofs.Units.{head_else}
 
 -- One unit
 
-pub may_publish : {lit : Literal} {v : View} {seen : List Literal} (found : Bool) → MayList lit v → seen ≡ (only v).core.seen → found ≡ has seen lit → found ≡ false → MayPublish lit v
-may_publish {lit} {v} {seen} found m is f e = record { writing = m.writing; whole = m.whole; told = m.told; new = ap (λ (ls : List Literal). has ls lit) (sym is) ∙ sym f ∙ e; vars = m.vars }
+pub may_publish : {lit : Literal} {number : ℕ} {v : View} {seen : List Literal} (found : Bool) → MayList lit number v → seen ≡ (only v).core.seen → found ≡ has seen lit → found ≡ false → MayPublish lit number v
+may_publish {lit} {number} {v} {seen} found m is f e = record { writing = m.writing; whole = m.whole; told = m.told; new = ap (λ (ls : List Literal). has ls lit) (sym is) ∙ sym f ∙ e; vars = m.vars }
 
 -- it was listed
-pub listed_before : {lit : Literal} {v : View} {seen : List Literal} (found : Bool) → MayList lit v → seen ≡ (only v).core.seen → found ≡ has seen lit → found ≡ true → ListedOne v v seen lit
-listed_before {lit} {v} {seen} found m is f e = record {
+pub listed_before : {lit : Literal} {number : ℕ} {v : View} {seen : List Literal} (found : Bool) → MayList lit number v → seen ≡ (only v).core.seen → found ≡ has seen lit → found ≡ true → ListedOne v v seen lit
+listed_before {lit} {number} {v} {seen} found m is f e = record {
   part = only v;
   parts = m.writing.0;
   layout = refl;
@@ -83,10 +85,10 @@ listed_before {lit} {v} {seen} found m is f e = record {
     by k false h = plain (has (only v).core.seen k)
 
 -- it is listed now
-pub listed_now : {lit : Literal} {v w : View} {seen seen' : List Literal} → v.parts ≡ only v ∷ [] → w ≡ after_list lit (after_unit (code_of lit) v) → seen ≡ (only v).core.seen → seen' ≡ seen ++ lit ∷ [] → ListedOne v w seen' lit
-listed_now {lit} {v} {w} {seen} {seen'} one is all more = record {
-  part = list_part lit (unit_part (code_of lit) (only v));
-  parts = ap (λ (u : View). u.parts) is ∙ ap (λ (ps : List RingPart). on_first (list_part lit) (on_first (unit_part (code_of lit)) ps)) one;
+pub listed_now : {lit : Literal} {v w : View} {seen seen' : List Literal} (number : ℕ) → v.parts ≡ only v ∷ [] → w ≡ after_list lit number (after_number number (after_unit (code_of lit) v)) → seen ≡ (only v).core.seen → seen' ≡ seen ++ lit ∷ [] → ListedOne v w seen' lit
+listed_now {lit} {v} {w} {seen} {seen'} number one is all more = record {
+  part = list_part lit number (number_part number (unit_part (code_of lit) (only v)));
+  parts = ap (λ (u : View). u.parts) is ∙ ap (λ (ps : List RingPart). on_first (list_part lit number) (on_first (number_part number) (on_first (unit_part (code_of lit)) ps))) one;
   layout = ap (λ (u : View). u.layout) is;
   opening = ap (λ (u : View). u.opening) is;
   origin = ap (λ (u : View). u.origin) is;
@@ -105,28 +107,22 @@ listed_now {lit} {v} {w} {seen} {seen'} one is all more = record {
   sees = new_sees (only v).core.seen lit;
 }
 
-pub listed_place : {lit : Literal} (v : View) → Seen v → MayPublish lit v → length (only v).core.seen < 2 * v.layout.vars
-listed_place {lit} v s m = publish_room lit v s m
+pub listed_place : {lit : Literal} {number : ℕ} (v : View) → Seen v → MayPublish lit number v → length (only v).core.seen < 2 * v.layout.vars
+listed_place {lit} {number} v s m = publish_room lit number v s m
 
 -- What the ring wrote stands in the log
 
-from_placed : (P : List Literal → Bool) (r i : ℕ) (K : List Entry) → list_any P (added (map (λ (e : Placed). e.entry) (placed r i K))) ≡ true → list_any P (added K) ≡ true
-from_placed P r i [] h = h
-from_placed P r i (e ∷ K) h = by (from_placed P r (i + 1) K) (ring_of e == r) h
+from_placed : (r i : ℕ) (K : List Entry) (e : Entry) → In e (map (λ (x : Placed). x.entry) (placed r i K)) → In e K
+from_placed r i [] e h = h
+from_placed r i (k ∷ K) e h = by (from_placed r (i + 1) K e) (ring_of k == r) h
   where
-    front : (X : List Entry) → list_any P (added (e ∷ X)) ≡ (list_any P (added (e ∷ [])) || list_any P (added X))
-    front X = ap (list_any P) (added-append (e ∷ []) X) ∙ list_any-append P (added (e ∷ [])) (added X)
+    by : (In e (map (λ (x : Placed). x.entry) (placed r (i + 1) K)) → In e K) → (b : Bool) → In e (map (λ (x : Placed). x.entry) (if b then record { place = i; entry = k } ∷ placed r (i + 1) K else placed r (i + 1) K)) → In e (k ∷ K)
+    by again true (inl q) = inl q
+    by again true (inr q) = inr (again q)
+    by again false q = inr (again q)
 
-    either : (a b c : Bool) → (b ≡ true → c ≡ true) → (a || b) ≡ true → (a || c) ≡ true
-    either true b c f k = refl
-    either false b c f k = f k
-
-    by : (list_any P (added (map (λ (x : Placed). x.entry) (placed r (i + 1) K))) ≡ true → list_any P (added K) ≡ true) → (b : Bool) → list_any P (added (map (λ (x : Placed). x.entry) (if b then record { place = i; entry = e } ∷ placed r (i + 1) K else placed r (i + 1) K))) ≡ true → list_any P (added (e ∷ K)) ≡ true
-    by again true k = front K ∙ either (list_any P (added (e ∷ []))) (list_any P (added (map (λ (x : Placed). x.entry) (placed r (i + 1) K)))) (list_any P (added K)) again (sym (front (map (λ (x : Placed). x.entry) (placed r (i + 1) K))) ∙ k)
-    by again false k = front K ∙ or_right (list_any P (added (e ∷ []))) (list_any P (added K)) (again k)
-
-pub told_here : (v w : View) (J : List Entry) (failed : Bool) (lit : Literal) → HasTurn v w J failed → Seen w → wrote_unit (only v) lit ≡ true → is_told v.opening.formula J lit ≡ true
-told_here v w J failed lit h s wrote =
+pub told_here : (v w : View) (J : List Entry) (failed : Bool) (lit : Literal) (number : ℕ) → HasTurn v w J failed → Seen w → HasNumbered (only v) lit number → (book v.opening.formula J).clause number ≡ Some (lit ∷ [])
+told_here v w J failed lit number h s wrote =
     let p : RingPart = only v in
     let x : RingPart = take_part J failed p in
     let k : IsPart w.layout s.core s.glue x = subst (IsPart w.layout s.core s.glue) (only_is w x h.parts) (part_of w s (one_is w x h.parts)) in
@@ -134,22 +130,21 @@ told_here v w J failed lit h s wrote =
     let sound = left_sound s.core.opening s.core s.left in
     let r : ℕ = p.core.ring in
     let K : List Entry = sound.entries.0 in
-    let P : List Literal → Bool = same_set (lit ∷ []) in
     let J0 : List Entry = s.core.opening.journal in
     let mine : p.core.wrote ≡ placed r (length J0) K = ap (λ (c : Part). c.wrote) k.part ∙ sound.entries.2 r k.ring in
-    let there : list_any P (added K) ≡ true = from_placed P r (length J0) K (subst (λ (ws : List Placed). list_any P (added (map (λ (e : Placed). e.entry) ws)) ≡ true) mine wrote) in
-    let all : list_any P (added (J0 ++ K)) ≡ true = ap (list_any P) (added-append J0 K) ∙ list_any-append P (added J0) (added K) ∙ or_right (list_any P (added J0)) (list_any P (added K)) there in
-    let F : List (List Literal) = v.opening.formula in
-    list_any-append P F (added J) ∙ or_right (list_any P F) (list_any P (added J)) (ap (λ (X : List Entry). list_any P (added X)) (same_journal ∙ sound.entries.1) ∙ all)
+    let a : Addition = record { ring = r; number = number; lits = lit ∷ []; kind = wrote.0; hints = wrote.1 } in
+    let own : In (Add a) (map (λ (y : Placed). y.entry) (placed r (length J0) K)) = subst (λ (ws : List Placed). In (Add a) (map (λ (y : Placed). y.entry) ws)) mine (Contains_In (entries_of p) (Add a) wrote.2) in
+    let there : In (Add a) s.core.journal = subst (In (Add a)) (sym sound.entries.1) (In_append_right J0 K (Add a) (from_placed r (length J0) K (Add a) own)) in
+    (λ i. (book ((sym h.opening ∙ s.opening) i).formula (same_journal i)).clause number) ∙ unit_numbered s.core.opening.formula s.core.journal a lit sound.log.log.fits there refl
 
-pub may_list : (v w u : View) (J : List Entry) (failed : Bool) (lit : Literal) (seen arrived arrived' : List Literal) → HasTurn v w J failed → Seen w → SawRest w u seen arrived arrived' → wrote_unit (only v) lit ≡ true → InVars v.layout (lit ∷ []) → MayList lit u
-may_list v w u J failed lit seen arrived arrived' h s rest wrote on =
+pub may_list : (v w u : View) (J : List Entry) (failed : Bool) (lit : Literal) (number : ℕ) (seen arrived arrived' : List Literal) → HasTurn v w J failed → Seen w → SawRest w u seen arrived arrived' → HasNumbered (only v) lit number → InVars v.layout (lit ∷ []) → MayList lit number u
+may_list v w u J failed lit number seen arrived arrived' h s rest wrote on =
     let saw = rest.saw in
     let turn : (only u).turn ≡ Some (record { journal = J }) = ap (λ (p : RingPart). p.turn) (only_is u saw.part saw.parts) ∙ saw.turn ∙ ap (λ (p : RingPart). p.turn) (only_is w (take_part J failed (only v)) h.parts) in
     record {
       writing = (one_is u saw.part saw.parts, (record { journal = J }, turn));
       whole = (rest.whole ∙ ap (λ (p : RingPart). is_some p.turn) (only_is w (take_part J failed (only v)) h.parts), rest.listed);
-      told = (λ i. is_told ((saw.opening ∙ h.opening) i).formula (journal_in (turn i)) lit) ∙ told_here v w J failed lit h s wrote;
+      told = (λ i. (book ((saw.opening ∙ h.opening) i).formula (journal_in (turn i))).clause number) ∙ told_here v w J failed lit number h s wrote;
       vars = subst (λ (l : Layout). InVars l (lit ∷ [])) (sym (saw.layout ∙ h.layout)) on;
     }
 
@@ -198,9 +193,9 @@ listed_all v w m n u J was lit seen seen' arrived arrived' ms x failed h rest s 
     let at_m : only m ≡ saw.part = only_is m saw.part saw.parts in
     let at_n : only n ≡ one.part = only_is n one.part one.parts in
     let seen_w : (only w).core.seen ≡ (only v).core.seen = ap (λ (p : RingPart). p.core.seen) at_w in
-    let core_m : (only m).core ≡ record (only v).core { seen = (only w).core.seen ++ saw.news } = ap (λ (p : RingPart). p.core) at_m ∙ saw.core ∙ (λ i. record (at_w i).core { seen = (only w).core.seen ++ saw.news }) in
+    let core_m : (only m).core ≡ record (only v).core { seen = (only w).core.seen ++ saw.news; numbers = (only w).core.numbers ++ saw.numbers } = ap (λ (p : RingPart). p.core) at_m ∙ saw.core ∙ (λ i. record (at_w i).core { seen = (only w).core.seen ++ saw.news; numbers = (only w).core.numbers ++ saw.numbers }) in
     let seen_m : (only m).core.seen ≡ (only v).core.seen ++ saw.news = ap (λ (c : Part). c.seen) core_m ∙ ap (λ (ls : List Literal). ls ++ saw.news) seen_w in
-    let core_n : (only n).core ≡ record (only m).core { seen = (only n).core.seen } = subst (λ (p : RingPart). p.core ≡ record (only m).core { seen = p.core.seen }) (sym at_n) one.core in
+    let core_n : (only n).core ≡ record (only m).core { seen = (only n).core.seen; numbers = (only n).core.numbers } = subst (λ (p : RingPart). p.core ≡ record (only m).core { seen = p.core.seen; numbers = p.core.numbers }) (sym at_n) one.core in
     let sees : (k : Literal) → has (only n).core.seen k ≡ (has (only m).core.seen k || same lit k) = λ k. ap (λ (p : RingPart). has p.core.seen k) at_n ∙ one.sees k in
     record {
       news = saw.news;
@@ -210,7 +205,7 @@ listed_all v w m n u J was lit seen seen' arrived arrived' ms x failed h rest s 
       opening = ap (λ (y : View). y.opening) is ∙ one.opening ∙ saw.opening ∙ h.opening;
       stop = ap (λ (y : View). y.stop) is ∙ one.stop ∙ saw.stop ∙ h.stop;
       looks = ap (λ (y : View). y.looks) is ∙ one.looks ∙ saw.looks ∙ h.looks;
-      core = core_n ∙ (λ i. record (core_m i) { seen = (only n).core.seen });
+      core = core_n ∙ (λ i. record (core_m i) { seen = (only n).core.seen; numbers = (only n).core.numbers });
       glues = ap (λ (p : RingPart). p.glues) at_n ∙ one.glues ∙ ap (λ (p : RingPart). p.glues) at_m ∙ saw.glues ∙ ap (λ (p : RingPart). p.glues) at_w;
       gave = ap (λ (p : RingPart). p.gave) at_n ∙ one.gave ∙ ap (λ (p : RingPart). p.gave) at_m ∙ saw.gave ∙ ap (λ (p : RingPart). p.gave) at_w;
       polls = ap (λ (p : RingPart). p.polls) at_n ∙ one.polls ∙ ap (λ (p : RingPart). p.polls) at_m ∙ saw.polls ∙ ap (λ (p : RingPart). p.polls) at_w;

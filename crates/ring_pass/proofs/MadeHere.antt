@@ -94,12 +94,12 @@ absent a (x ∷ hs) k (inr i) z = absent a hs k i (omega arith)
 
 -- The line of a clause stands, and its cell is to be built
 
-module _ (v u : View) (kind : Kind) (lits : List Literal) (glue a number : ℕ) (h : WroteClause v u kind lits glue a number) (s : Seen u) where
+module _ (v u : View) (kind : Kind) (lits : List Literal) (hints : List ℕ) (glue a number : ℕ) (h : WroteClause v u kind lits hints glue a number) (s : Seen u) where
   J : List Entry
   J = h.wrote.journal
 
   abbrev part : RingPart
-  part = give_part v.opening (sheet_after v.opening (only v).core.ring (sheet_with h.wrote.journal (only v)) (Clause kind lits glue a ∷ [])) h.wrote.refused h.wrote.failed (only v)
+  part = give_part v.opening (sheet_after v.opening (only v).core.ring (sheet_with h.wrote.journal (only v)) (Clause kind lits hints glue a ∷ [])) h.wrote.refused h.wrote.failed (only v)
 
   abbrev clause : ClauseAt
   clause = clause_with a (next_number v.opening h.wrote.journal) lits
@@ -153,7 +153,7 @@ module _ (v u : View) (kind : Kind) (lits : List Literal) (glue a number : ℕ) 
         ∙ ap (λ (ks : List ClauseAt). without_at a (ks ++ clause ∷ [])) none
         ∙ (λ i. if eq-eqb a a refl i then [] else clause ∷ [])
 
-    pub line_opened : Added v w kind lits glue a
+    pub line_opened : Added v w kind lits hints glue a
     line_opened = record {
       number = number;
       place = length h.wrote.journal;
@@ -166,7 +166,7 @@ module _ (v u : View) (kind : Kind) (lits : List Literal) (glue a number : ℕ) 
       core = λ i. record (only v).core {
         held = (only v).core.held ++ making_same i ∷ [];
         making = last.core.making;
-        wrote = (only v).core.wrote ++ placed_line (length h.wrote.journal) (only v).core.ring (sym h.number_is i) lits kind ∷ [];
+        wrote = (only v).core.wrote ++ placed_line (length h.wrote.journal) (only v).core.ring (sym h.number_is i) lits kind hints ∷ [];
         ticket = ticket_after kind (only v).core.ticket;
       };
       glues = λ i. record { number = sym h.number_is i; glue = glue } ∷ (only v).glues;
@@ -176,7 +176,7 @@ module _ (v u : View) (kind : Kind) (lits : List Literal) (glue a number : ℕ) 
       turn = refl;
       refused = ap (λ (x : Option Refusal). newer x (only v).refused) h.wrote.quiet;
       going = not_ended v h.wrote.journal h.wrote.knows h.wrote.going;
-      ended_is = λ e. or_left (only v).ended (ended v.opening.formula (h.wrote.journal ++ entry_of v.opening (only v).core.ring h.wrote.journal (only v).core (Clause kind lits glue a) ∷ [])) e;
+      ended_is = λ e. or_left (only v).ended (ended v.opening.formula (h.wrote.journal ++ entry_of v.opening (only v).core.ring h.wrote.journal (only v).core (Clause kind lits hints glue a) ∷ [])) e;
       failed_is = h.wrote.gave.still;
       whole = h.wrote.whole;
       built = λ none. built_none none;

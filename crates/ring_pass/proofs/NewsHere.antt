@@ -19,6 +19,7 @@ use Rattle.ring_pass.proofs.Stays.{only_is, one_is}
 pub news_none : (v : View) (seen arrived : List Literal) (a b : ℕ) → v.parts ≡ only v ∷ [] → HasUnits (only v) v.layout.vars seen a b → distinct_lits arrived ≡ true → All (λ l. has (only v).core.seen l ≡ true) arrived → SawNews v v seen arrived arrived
 news_none v seen arrived a b one units d told = record {
   news = [];
+  numbers = [];
   part = only v;
   parts = one;
   layout = refl;
@@ -26,7 +27,7 @@ news_none v seen arrived a b one units d told = record {
   origin = refl;
   stop = refl;
   looks = refl;
-  core = λ i. record (only v).core { seen = sym (append-nil (only v).core.seen) i };
+  core = λ i. record (only v).core { seen = sym (append-nil (only v).core.seen) i; numbers = sym (append-nil (only v).core.numbers) i };
   glues = refl;
   gave = refl;
   polls = refl;
@@ -54,18 +55,20 @@ news_more v w u seen seen' arrived arrived' arrived'' x h s saw =
     let one = news_one h in
     let ss : List Literal = (only w).core.seen in
     let ss_is : ss ≡ (only v).core.seen ++ h.news = ap (λ (p : RingPart). p.core.seen) now ∙ ap (λ (c : Part). c.seen) h.core in
-    let core : (only w).core ≡ record (only v).core { seen = (only v).core.seen ++ h.news } = ap (λ (p : RingPart). p.core) now ∙ h.core in
-    let then_is : only u ≡ saw_part x saw.listed (only w) = only_is u (saw_part x saw.listed (only w)) (saw_parts w u x saw.listed one saw.view) in
+    let core : (only w).core ≡ record (only v).core { seen = (only v).core.seen ++ h.news; numbers = (only v).core.numbers ++ h.numbers } = ap (λ (p : RingPart). p.core) now ∙ h.core in
+    let then_is : only u ≡ saw_part x saw.number saw.listed (only w) = only_is u (saw_part x saw.number saw.listed (only w)) (saw_parts w u x saw.number saw.listed one saw.view) in
     record {
       news = h.news ++ x ∷ [];
-      part = saw_part x saw.listed (only w);
-      parts = saw_parts w u x saw.listed one saw.view;
+      numbers = h.numbers ++ saw.number ∷ [];
+      part = saw_part x saw.number saw.listed (only w);
+      parts = saw_parts w u x saw.number saw.listed one saw.view;
       layout = ap (λ (y : View). y.layout) saw.view ∙ h.layout;
       opening = ap (λ (y : View). y.opening) saw.view ∙ h.opening;
       origin = ap (λ (y : View). y.origin) saw.view ∙ h.origin;
       stop = ap (λ (y : View). y.stop) saw.view ∙ h.stop;
       looks = ap (λ (y : View). y.looks) saw.view ∙ h.looks;
-      core = (λ i. record (core i) { seen = (core i).seen ++ x ∷ [] }) ∙ (λ i. record (only v).core { seen = append_assoc (only v).core.seen h.news (x ∷ []) i });
+      core = (λ i. record (core i) { seen = (core i).seen ++ x ∷ []; numbers = (core i).numbers ++ saw.number ∷ [] })
+          ∙ (λ i. record (only v).core { seen = append_assoc (only v).core.seen h.news (x ∷ []) i; numbers = append_assoc (only v).core.numbers h.numbers (saw.number ∷ []) i });
       glues = ap (λ (p : RingPart). p.glues) now ∙ h.glues;
       gave = ap (λ (p : RingPart). p.gave) now ∙ h.gave;
       polls = ap (λ (p : RingPart). p.polls) now ∙ h.polls;
@@ -76,7 +79,7 @@ news_more v w u seen seen' arrived arrived' arrived'' x h s saw =
       failed = ap (λ (p : RingPart). p.failed) now ∙ h.failed;
       seen_is = saw.seen_is ∙ ap (λ (ls : List Literal). ls ++ x ∷ []) (h.seen_is ∙ sym (ap (λ (p : RingPart). p.core.seen) now));
       arrived_is = saw.arrived_is ∙ ap (λ (ls : List Literal). ls ++ x ∷ []) h.arrived_is ∙ append_assoc arrived h.news (x ∷ []);
-      distinct = subst (λ (ls : List Literal). distinct_lits ls ≡ true) (sym saw.arrived_is) (arrived_distinct ss arrived' x h.distinct (news_told h) (saw_fresh w u x saw.listed one saw.view s));
+      distinct = subst (λ (ls : List Literal). distinct_lits ls ≡ true) (sym saw.arrived_is) (arrived_distinct ss arrived' x h.distinct (news_told h) (saw_fresh w u x saw.number saw.listed one saw.view s));
       told = subst (λ (ls : List Literal). All (λ l. has (ss ++ x ∷ []) l ≡ true) ls) (sym saw.arrived_is) (arrived_told ss arrived' x (news_told h));
     }
 
@@ -92,6 +95,7 @@ news_all v w u seen seen' arrived arrived' arrived'' h saw =
     record {
       saw = record {
         news = h.news;
+        numbers = h.numbers;
         part = x;
         parts = parts;
         layout = ap (λ (y : View). y.layout) saw.view ∙ h.layout;
@@ -120,7 +124,7 @@ news_all v w u seen seen' arrived arrived' arrived'' h saw =
 -- fewer may come
 pub news_fewer : (w u : View) (seen seen' arrived' arrived'' : List Literal) (x : Literal) (a b : ℕ) → w.parts ≡ only w ∷ [] → HasUnits (only w) w.layout.vars seen a b → Seen u → SawOne w u seen seen' arrived' arrived'' x → 2 * u.layout.vars - length seen' < 2 * w.layout.vars - length seen
 news_fewer w u seen seen' arrived' arrived'' x a b one units s saw =
-    let place = saw_place w u x saw.listed one saw.view s in
+    let place = saw_place w u x saw.number saw.listed one saw.view s in
     let vars = ap (λ (y : View). y.layout.vars) saw.view in
     let all = ap length units.all in
     let long = length-append seen (x ∷ []) in

@@ -25,10 +25,10 @@ pub offer_reduced : (v u : View) (last : Option Cref) (s : Spares) → Wrote v u
 offer_reduced v u last s h r = offer_turns v u (reduced_part v h.journal h.refused h.failed) last s h.gave.opening h.gave.parts refl refl refl refl r
 
 pub offer_sees : (v w : View) (x : Literal) (seen seen' arrived more : List Literal) (last : Option Cref) (s : Spares) → v.parts ≡ only v ∷ [] → SawOne v w seen seen' arrived more x → CanOffer (only v) v.opening last s → CanOffer (only w) w.opening last s
-offer_sees v w x seen seen' arrived more last s one h r = offer_turns v w (saw_part x h.listed (only v)) last s (ap (λ (u : View). u.opening) h.view) (saw_parts v w x h.listed one h.view) refl refl refl refl r
+offer_sees v w x seen seen' arrived more last s one h r = offer_turns v w (saw_part x h.number h.listed (only v)) last s (ap (λ (u : View). u.opening) h.view) (saw_parts v w x h.number h.listed one h.view) refl refl refl refl r
 
-pub offer_ended : (v u : View) (last : Option Cref) (s : Spares) → Wrote v u Empty → CanOffer (only v) v.opening last s → CanOffer (only u) u.opening last s
-offer_ended v u last s h r = offer_turns v u (ended_part v h.journal h.refused h.failed) last s h.gave.opening h.gave.parts refl refl refl refl r
+pub offer_ended : {hints : List ℕ} (v u : View) (last : Option Cref) (s : Spares) → Wrote v u (Empty hints) → CanOffer (only v) v.opening last s → CanOffer (only u) u.opening last s
+offer_ended {hints} v u last s h r = offer_turns v u (ended_part v h.journal hints h.refused h.failed) last s h.gave.opening h.gave.parts refl refl refl refl r
 
 pub offer_deleted : (v w : View) (k : ℕ) (last : Option Cref) (s : Spares) → Deleted v w k → CanOffer (only v) v.opening last s → CanOffer (only w) w.opening last s
 offer_deleted v w k last s d r = offer_turns v w d.part last s d.opening d.parts (ap (λ (c : Part). c.held) d.core) d.gave (ap (λ (c : Part). c.ring) d.core) (ap (λ (c : Part). c.puts) d.core) r

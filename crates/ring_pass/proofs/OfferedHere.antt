@@ -40,6 +40,7 @@ use Rattle.ring_pass.specs.declared.spares.Spares.{Spares}
 use Rattle.ring_pass.specs.declared.waiting.Waiting.{Waiting}
 use Rattle.ring_pass.specs.Offering.{others, puts_for, CanTakeBack, PutFor}
 use Rattle.ring_pass.specs.RingState.{Own, port_with, port_of, home_of, holding_of, offer_of, IsOwn, IsRingPass, AreShort, HasRoom, AreNext, CanOffer, pending, HasListed}
+use Rattle.ring_pass.proofs.NumbersHere.{numbers_keep}
 use Rattle.ring_pass.proofs.NextPlaces.{offers_at, map_puts, offers_same, next_offered}
 use Rattle.ring_pass.proofs.OtherRings.{others_fewer}
 use Rattle.ring_pass.proofs.PollsHere.{map_same}
@@ -211,6 +212,8 @@ pub ring_offers : {B : Type 0} {t : Shared B} {p : Seat (Option B) View} {n : �
 ring_offers {B} {t} {p} {n} {st} {o} q class place a tos r pass same f =
     ring_changes q (only q.me.0) (record o { last = None; home = home_of q }) r pass same f.opening f.one (ap (λ (y : RingPart). y.core.ring) f.part.part) (ap (λ (y : RingPart). y.turn) f.part.part) refl
     (own_offers p.me.0 q.me.0 o (home_of q) class place a tos f r.own) (λ lone e. r.alone_is lone (ap (λ (y : RingPart). y.failed) (sym f.part.part) ∙ e))
+    refl
+    (numbers_keep (ap (λ (y : RingPart). y.core.seen) f.part.part) (ap (λ (y : RingPart). y.core.numbers) f.part.part) refl)
 
 pub room_offers : (v w : View) (class place a : ℕ) (tos : List ℕ) (ws : List Waiting) (room : ℕ) (s : Spares) → PutFor v w class place a tos → (only v).core.shared + length tos ≤ 15 * length (only v).core.wrote → CanTakeBack (only w) ws room s 0 → HasRoom (only w) w.opening.rings None ws room
 room_offers v w class place a tos ws room s f few back =

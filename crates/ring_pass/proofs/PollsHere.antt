@@ -29,6 +29,7 @@ use Rattle.ring_port.specs.Port.{KeepsHeld}
 use Rattle.ring_port.specs.Exchange.{Polled}
 use Rattle.ring_port.proofs.Holdings.{found_in_front}
 use Rattle.ring_pass.specs.declared.waiting.Waiting.{Waiting}
+use Rattle.ring_pass.specs.Numbers.{HasNumbers}
 use Rattle.ring_pass.specs.RingState.{Own, port_with, port_of, home_of, holding_of, slot_of, looks_before, IsOwn, IsRingPass, HasRoom, HasUnits}
 use Rattle.ring_pass.proofs.RingPorts.{copy_of, kept_of, waiting_copy, waits_free}
 use Rattle.ring_pass.proofs.Stays.{only_is, one_is, one_changed, ring_changes, name_stays, units_keep}
@@ -180,8 +181,12 @@ pub ring_polls : {B : Type 0} {t : Shared B} {p : Seat (Option B) View} {n : ℕ
     → q.me.0 ≡ after_get from class place h g p.me.0 → IsFound h.address x → ts ≡ taken_after x o.taken → IsRingPass t q n st (record o { polled = k; taken = ts; home = home_of q })
 ring_polls {B} {t} {p} {n} {st} {o} q from class place h g x k ts r pass same is f e =
     ring_changes q (after_part from class place h g x (only p.me.0)) (record o { polled = k; taken = ts; home = home_of q }) r pass same (ap (λ (u : View). u.opening) is) (got_parts p.me.0 q.me.0 from class place h g x r.one is f)
-    (by_ring x) (by_turn x) refl (own_after from class place h g x (only p.me.0) o k ts (home_of q) f r.own e) (λ lone failed. r.alone_is lone (sym (by_failed x) ∙ failed))
+    (by_ring x) (by_turn x) refl (own_after from class place h g x (only p.me.0) o k ts (home_of q) f r.own e) (λ lone failed. r.alone_is lone (sym (by_failed x) ∙ failed)) refl (by_numbers x)
   where
+    by_numbers : (y : Option Cref) → HasNumbers (only p.me.0).core.seen (only p.me.0).core.numbers p.me.0.layout.vars o.numbers → HasNumbers (after_part from class place h g y (only p.me.0)).core.seen (after_part from class place h g y (only p.me.0)).core.numbers p.me.0.layout.vars o.numbers
+    by_numbers None m = m
+    by_numbers (Some c) m = m
+
     by_ring : (y : Option Cref) → (after_part from class place h g y (only p.me.0)).core.ring ≡ (only p.me.0).core.ring
     by_ring None = refl
     by_ring (Some c) = refl

@@ -1,6 +1,6 @@
 -- A ring with its pass is a port.
 use Rattle.std.proofs.Common.{◌^◌, ◌≡◌, ◌≢◌, ℕ, zero, suc, ◌<◌, ◌≤◌, Bool, true, false, not, ◌&&◌, if◌then◌else◌, List, [], ◌∷◌, ◌++◌, map, length, take, refl, sym, ap, subst, ◌∙◌, arith, Some, None, IfSome, IsSome, Option, ◌==◌, eq-eqb, ne_eqb}
-use Rattle.std.specs.List.{All, find, slice_get}
+use Rattle.std.specs.List.{All, Contains, find, slice_get, zip}
 use Rattle.std.specs.Option.{option_map, option_map_or, is_none}
 use Rattle.std.proofs.lemmas.Bool.{false≢true}
 use mathlib.Core.Logic.{dite}
@@ -11,9 +11,10 @@ use Rattle.sat_words.specs.Clause.{has}
 use Rattle.sat_words.specs.declared.shared.Cref.{Cref}
 use Rattle.sat_words.specs.declared.shared.Head.{Head}
 use Rattle.rup_model.specs.Basics.{one_if}
+use Rattle.rup_model.specs.Hints.{numbered}
 use Rattle.rup_model.specs.Opening.{IsLong, IsStart}
 use Rattle.rup_model.specs.Journal.{book}
-use Rattle.rup_model.proofs.Lists.{In, Contains_In, map_In, In_map, In_append_left}
+use Rattle.rup_model.proofs.Lists.{In, Contains_In, map_In, In_map, In_append_left, In_append_right, In_Contains}
 use Rattle.rup_model.proofs.ProgramOpening.{All_from_In}
 use Rattle.rup_model.proofs.Sums.{below_at}
 use Rattle.atomic_table.specs.declared.shared.Seat.{Seat}
@@ -23,9 +24,11 @@ use Rattle.share_core.specs.declared.stored.Cell.{Cell}
 use Rattle.share_core.specs.declared.part.Part.{Part}
 use Rattle.share_core.specs.declared.part.CoreOpening.{CoreOpening}
 use Rattle.share_core.specs.State.{IsCoreOpening, State, opened, opening_of, times_at, count_at}
+use Rattle.share_core.specs.Learning.{known as core_known}
 use Rattle.share_core.specs.Sound.{Sound, IsCopy, counted, reach, idle_at}
 use Rattle.share_core.proofs.ClauseLists.{all_in, at_in}
 use Rattle.share_core.proofs.Counting.{some_same, none_some, waiting_cell}
+use Rattle.share_core.proofs.Frames.{known_named}
 use Rattle.share_core.proofs.Leaving.{left_sound}
 use Rattle.share_core.proofs.Others.{run_units}
 use Rattle.share_rule.specs.declared.Shared.{Shared}
@@ -36,8 +39,9 @@ use Rattle.share_rule.specs.Layout.{InVars}
 use Rattle.share_rule.specs.Views.{only, glue_in, start_glues, clause_in, clause_of, lit_in}
 use Rattle.share_rule.specs.Passes.{IsPassOf}
 use Rattle.share_rule.specs.Seen.{Seen, IsPart}
-use Rattle.ring_port.specs.PortState.{Holding, IsPort, IsKept, IsOn, IsStop, AreApart, held_at, lits_at, head_of}
+use Rattle.ring_port.specs.PortState.{Holding, IsPort, IsKept, IsOn, IsStop, AreApart, AreNumbered, held_at, known_at, lits_at, head_of}
 use Rattle.ring_pass.specs.RingState.{home_of, Own, kept, holding_of, stop_as, without_kept, port_of, IsOwn}
+use Rattle.ring_pass.proofs.NumbersHere.{numbered_found, zip_In}
 use Rattle.ring_pass.proofs.Units.{filter_In, take_In, front_left}
 
 -- Held clauses
@@ -84,6 +88,14 @@ there_here v o a h = some_at (only v).glues (only v).core.held a h
 pub nothing_here : (v : View) (o : Own) (a : ℕ) → times_at a (only v).core.held ≡ 0 → held_at (port_of v o) a ≡ None
 unfolding held_at
 nothing_here v o a h = none_at (only v).glues (only v).core.held a h
+
+-- what hints may name is what the ring knows
+known_same : (gs : List GlueAt) (hs : List ClauseAt) → map {B = ℕ × List Literal} (λ (h : Holding). (h.number, h.lits)) (map (holding_of gs) hs) ≡ map {B = ℕ × List Literal} (λ (h : ClauseAt). (h.number, h.lits)) hs
+known_same gs [] = refl
+known_same gs (h ∷ hs) = ap (λ (cs : List (ℕ × List Literal)). (h.number, h.lits) ∷ cs) (known_same gs hs)
+
+pub known_is : (v : View) (o : Own) → known_at (port_of v o) ≡ core_known (only v).core
+known_is v o = ap (λ (cs : List (ℕ × List Literal)). cs ++ map {B = ℕ × List Literal} (λ (u : Literal × ℕ). (u.1, u.0 ∷ [])) (zip (only v).core.seen (only v).core.numbers)) (known_same (only v).glues (only v).core.held)
 
 -- clauses of which no address stands twice
 apart_of : (gs : List GlueAt) (hs : List ClauseAt) → ((a : ℕ) → times_at a hs ≤ 1) → AreApart (map (holding_of gs) hs)
@@ -186,6 +198,42 @@ module _ (v : View) (s : Seen v) (one : v.parts ≡ only v ∷ []) where
   stop_on None e = tt
   stop_on (Some t) e = let k = sound_of.stops.kinds t (s.stops.stands t e) in record { low = k.0; high = k.1; of_ring = subst (λ (o : CoreOpening). t.ring < o.rings) (sym s.opening) k.2 }
 
+  -- a number that the port knows names its clause
+  named_here : (o : Own) (n : ℕ) (d : List Literal) → In (n, d) (core_known (only v).core) → numbered (known_at (port_of v o)) n ≡ Some d
+  named_here o n d i =
+      let r : ℕ = (only v).core.ring in
+      let names : (k : ℕ) (c : List Literal) → In (k, c) (core_known (only v).core) → (book s.core.opening.formula s.core.journal).clause k ≡ Some c = λ k c j. known_named s.core r sound_of part_of.ring k c (subst (λ (q : Part). In (k, c) (core_known q)) part_of.part j) in
+      ap (λ (cs : List (ℕ × List Literal)). numbered cs n) (known_is v o) ∙ numbered_found (book s.core.opening.formula s.core.journal).clause (core_known (only v).core) names n d i
+
+  -- a unit that was seen is told with its number
+  pub unit_alive : (l : Literal) (n : ℕ) → In (l, n) (zip (only v).core.seen (only v).core.numbers) → (book s.core.opening.formula s.core.journal).clause n ≡ Some (l ∷ [])
+  unit_alive l n i =
+      let r : ℕ = (only v).core.ring in
+      let p : Part = (only v).core in
+      let j : In (n, l ∷ []) (core_known p) = In_append_right (map {B = ℕ × List Literal} (λ (h : ClauseAt). (h.number, h.lits)) p.held) (map {B = ℕ × List Literal} (λ (u : Literal × ℕ). (u.1, u.0 ∷ [])) (zip p.seen p.numbers)) (n, l ∷ []) (In_map {Y = ℕ × List Literal} (λ (u : Literal × ℕ). (u.1, u.0 ∷ [])) (zip p.seen p.numbers) (l, n) i) in
+      known_named s.core r sound_of part_of.ring n (l ∷ []) (subst (λ (q : Part). In (n, l ∷ []) (core_known q)) part_of.part j)
+
+  -- as many numbers as units
+  pub numbers_long : length (only v).core.numbers ≡ length (only v).core.seen
+  numbers_long = subst (λ (q : Part). length q.numbers ≡ length q.seen) (sym part_of.part) (sound_of.units.numbered (only v).core.ring).2
+
+  are_numbered : (o : Own) → AreNumbered (port_of v o)
+  are_numbered o =
+      let p : Part = (only v).core in
+      let gs : List GlueAt = (only v).glues in
+      let told : List (Literal × ℕ) = zip p.seen p.numbers in
+      record {
+        held = All_from_In (λ (h : Holding). numbered (known_at (port_of v o)) h.number ≡ Some h.lits) (map (holding_of gs) p.held) (λ h i.
+            let t = map_In (holding_of gs) p.held h i in
+            subst (λ (k : Holding). numbered (known_at (port_of v o)) k.number ≡ Some k.lits) t.2
+            (named_here o t.0.number t.0.lits (In_append_left (map {B = ℕ × List Literal} (λ (k : ClauseAt). (k.number, k.lits)) p.held) (map {B = ℕ × List Literal} (λ (u : Literal × ℕ). (u.1, u.0 ∷ [])) told) (t.0.number, t.0.lits) (In_map {Y = ℕ × List Literal} (λ (k : ClauseAt). (k.number, k.lits)) p.held t.0 t.1))));
+        told = All_from_In (λ (u : Literal × ℕ). numbered (known_at (port_of v o)) u.1 ≡ Some (u.0 ∷ [])) told (λ u i.
+            named_here o u.1 (u.0 ∷ []) (In_append_right (map {B = ℕ × List Literal} (λ (k : ClauseAt). (k.number, k.lits)) p.held) (map {B = ℕ × List Literal} (λ (x : Literal × ℕ). (x.1, x.0 ∷ [])) told) (u.1, u.0 ∷ []) (In_map {Y = ℕ × List Literal} (λ (x : Literal × ℕ). (x.1, x.0 ∷ [])) told u i)));
+        seen = All_from_In (λ (l : Literal). (n : ℕ) × Contains told (l, n)) (without_kept (kept o) p.seen) (λ l i.
+            let t = zip_In p.seen p.numbers l numbers_long (filter_In (λ k. not (has (kept o) k)) p.seen l i) in
+            (t.0, In_Contains told (l, t.0) t.1));
+      }
+
   pub is_port : (o : Own) → IsOwn (only v) o → IsPort (port_of v o)
   is_port o own =
       let gs : List GlueAt = (only v).glues in
@@ -217,6 +265,7 @@ module _ (v : View) (s : Seen v) (one : v.parts ≡ only v ∷ []) where
         ring = subst (λ (q : CoreOpening). (only v).core.ring < q.rings) (sym s.opening) part_of.ring;
         deep = subst (λ (q : CoreOpening). 1 ≤ q.depth) (sym s.opening) sound_of.opens.some_slot;
         few = subst (λ (q : CoreOpening). q.limit < 2 ^ 64) (sym s.opening) (let le = sound_of.opens.limited in omega arith);
+        named = λ _. are_numbered o;
       }
 
 -- there is a ring at least, and the layout says how many there are

@@ -22,7 +22,8 @@ use Rattle.share_rule.specs.declared.view.RingPart.{RingPart}
 use Rattle.share_rule.specs.declared.view.View.{View}
 use Rattle.share_rule.specs.Passes.{IsPassOf, IsSamePass}
 use Rattle.share_rule.specs.Seen.{Seen}
-use Rattle.share_rule.specs.Steps.{on_first}
+use Rattle.share_rule.specs.Steps.{on_first, after_load}
+use Rattle.share_rule.specs.Layout.{number_at}
 use Rattle.share_rule.specs.Units.{count_part, see_part, after_count, after_see}
 use Rattle.share_rule.specs.Views.{only}
 use Rattle.share_rule.proofs.Literals.{few_distinct}
@@ -30,10 +31,11 @@ use Rattle.ring_port.specs.Port.{Sees, TookUnit, TookNone, Took}
 use Rattle.ring_port.specs.PortState.{PortState}
 use Rattle.ring_pass.specs.RingState.{Own, kept, without_kept, port_with, port_of, home_of, IsOwn, HasUnits, IsRingPass, HasRoom}
 use Rattle.ring_pass.specs.declared.waiting.Waiting.{Waiting}
-use Rattle.ring_pass.specs.Sights.{SawOne, SawAll}
+use Rattle.ring_pass.specs.Sights.{after_sight, SawOne, SawAll}
 use Rattle.ring_pass.proofs.PollsHere.{port_step}
 use Rattle.ring_pass.proofs.RingPorts.{part_of, seen_listed, unit_on}
-use Rattle.ring_pass.proofs.Stays.{only_is, one_is, one_changed, ring_changes, name_stays}
+use Rattle.ring_pass.specs.Numbers.{KeepsNumbers}
+use Rattle.ring_pass.proofs.Stays.{numbers_then, only_is, one_is, one_changed, ring_changes, name_stays}
 use Rattle.ring_pass.proofs.TurnsHere.{room_turns}
 use Rattle.ring_pass.proofs.Units.{filter_In, In_filter}
 use Rattle.ring_pass.proofs.AllListed.{listed_sees}
@@ -235,7 +237,7 @@ module _ (v : View) (s : Seen v) (one : v.parts ≡ only v ∷ []) where
       let d = (left_sound s.core.opening s.core s.left).units.distinct in
       subst (λ (q : Part). distinct_lits q.seen ≡ true) (sym (part_of v s one).part) (front_distinct (s.core.part (only v).core.ring).seen t.0 (subst (λ (us : List Literal). distinct_lits us ≡ true) t.1 d))
 
-  seen_on : (l : Literal) → In l (only v).core.seen → (1 ≤ l.var) × (l.var ≤ v.layout.vars)
+  pub seen_on : (l : Literal) → In l (only v).core.seen → (1 ≤ l.var) × (l.var ≤ v.layout.vars)
   seen_on l i = let k = unit_on v s one l (seen_listed v s one l i) in (k.low, k.high)
 
   pub few_arrived : (xs : List Literal) → distinct_lits xs ≡ true → All (λ l. has (only v).core.seen l ≡ true) xs → length xs ≤ 2 * v.layout.vars
@@ -247,16 +249,16 @@ module _ (v : View) (s : Seen v) (one : v.parts ≡ only v ∷ []) where
 -- One more unit is seen
 
 -- the ring's part then
-abbrev pub saw_part : Literal → ℕ → RingPart → RingPart
-saw_part x n p = see_part x (count_part n p)
+abbrev pub saw_part : Literal → ℕ → ℕ → RingPart → RingPart
+saw_part x u n p = see_part x u (count_part n p)
 
-pub saw_parts : (v w : View) (x : Literal) (n : ℕ) → v.parts ≡ only v ∷ [] → w ≡ after_see x (after_count n v) → w.parts ≡ saw_part x n (only v) ∷ []
-saw_parts v w x n one is = ap (λ (u : View). u.parts) is ∙ ap (λ (ps : List RingPart). on_first (see_part x) (on_first (count_part n) ps)) one
+pub saw_parts : (v w : View) (x : Literal) (u n : ℕ) → v.parts ≡ only v ∷ [] → w ≡ after_sight x u n v → w.parts ≡ saw_part x u n (only v) ∷ []
+saw_parts v w x u n one is = ap (λ (y : View). y.parts) is ∙ ap (λ (ps : List RingPart). on_first (see_part x u) (on_first (count_part n) ps)) one
 
 -- if more are listed than were seen the ring has not caught up once more
-pub saw_short : (v w : View) (x : Literal) (n k : ℕ) → v.parts ≡ only v ∷ [] → w ≡ after_see x (after_count n v) → k < n → k ≡ length (only v).core.seen → (only w).caught_up ≡ (only v).caught_up
-saw_short v w x n k one is lt e =
-    ap (λ (q : RingPart). q.caught_up) (only_is w (saw_part x n (only v)) (saw_parts v w x n one is))
+pub saw_short : (v w : View) (x : Literal) (u n k : ℕ) → v.parts ≡ only v ∷ [] → w ≡ after_sight x u n v → k < n → k ≡ length (only v).core.seen → (only w).caught_up ≡ (only v).caught_up
+saw_short v w x u n k one is lt e =
+    ap (λ (q : RingPart). q.caught_up) (only_is w (saw_part x u n (only v)) (saw_parts v w x u n one is))
     ∙ (λ i. if ne_eqb n (length (only v).core.seen) (λ f. absurd (omega arith)) i then (only v).caught_up + 1 else (only v).caught_up)
 
 -- and where as many are it has
@@ -265,12 +267,17 @@ saw_level v w n one is e =
     ap (λ (q : RingPart). q.caught_up) (only_is w (count_part n (only v)) (one_changed (count_part n) v w one (ap (λ (u : View). u.parts) is)))
     ∙ (λ i. if eq-eqb n (length (only v).core.seen) e i then (only v).caught_up + 1 else (only v).caught_up)
 
+-- the number was read where the next one stands
+pub sight_is : (v w : View) (seen : List Literal) (x : Literal) (u n k : ℕ) → k ≡ length seen → seen ≡ (only v).core.seen → w ≡ after_load (number_at v.layout k) u (after_see x u (after_count n v)) → w ≡ after_sight x u n v
+sight_is v w seen x u n k e all is = is ∙ (λ i. after_load (number_at v.layout ((e ∙ ap length all) i)) u (after_see x u (after_count n v)))
+
 -- one more, or none, as the look for the next one found it
-pub saw_one : {v w : View} {seen seen' arrived arrived' : List Literal} {x : Literal} (k : ℕ) → v.parts ≡ only v ∷ [] → seen ≡ (only v).core.seen → k ≡ length seen → (n : ℕ) × (k < n) × (w ≡ after_see x (after_count n v)) → seen' ≡ seen ++ x ∷ [] → arrived' ≡ arrived ++ x ∷ [] → SawOne v w seen seen' arrived arrived' x
-saw_one {v} {w} {seen} {seen'} {arrived} {arrived'} {x} k one all e h more later = record {
+pub saw_one : {v w : View} {seen seen' arrived arrived' : List Literal} {x : Literal} {u : ℕ} (k : ℕ) → v.parts ≡ only v ∷ [] → seen ≡ (only v).core.seen → k ≡ length seen → (n : ℕ) × (k < n) × (w ≡ after_load (number_at v.layout k) u (after_see x u (after_count n v))) → seen' ≡ seen ++ x ∷ [] → arrived' ≡ arrived ++ x ∷ [] → SawOne v w seen seen' arrived arrived' x
+saw_one {v} {w} {seen} {seen'} {arrived} {arrived'} {x} {u} k one all e h more later = record {
   listed = h.0;
-  view = h.2;
-  caught_up = saw_short v w x h.0 k one h.2 h.1 (e ∙ ap length all);
+  number = u;
+  view = sight_is v w seen x u h.0 k e all h.2;
+  caught_up = saw_short v w x u h.0 k one (sight_is v w seen x u h.0 k e all h.2) h.1 (e ∙ ap length all);
   seen_is = more;
   arrived_is = later;
 }
@@ -286,16 +293,16 @@ saw_all v w seen arrived k r none one all e h = subst (λ (o : Option Literal). 
 })
 
 -- it was not seen before
-pub saw_fresh : (v w : View) (x : Literal) (n : ℕ) → v.parts ≡ only v ∷ [] → w ≡ after_see x (after_count n v) → Seen w → has (only v).core.seen x ≡ false
-saw_fresh v w x n one is s =
-    let parts = saw_parts v w x n one is in
-    last_else (only v).core.seen x [] (subst (λ (q : RingPart). distinct_lits q.core.seen ≡ true) (only_is w (saw_part x n (only v)) parts) (seen_distinct w s (one_is w (saw_part x n (only v)) parts)))
+pub saw_fresh : (v w : View) (x : Literal) (u n : ℕ) → v.parts ≡ only v ∷ [] → w ≡ after_sight x u n v → Seen w → has (only v).core.seen x ≡ false
+saw_fresh v w x u n one is s =
+    let parts = saw_parts v w x u n one is in
+    last_else (only v).core.seen x [] (subst (λ (q : RingPart). distinct_lits q.core.seen ≡ true) (only_is w (saw_part x u n (only v)) parts) (seen_distinct w s (one_is w (saw_part x u n (only v)) parts)))
 
 -- so there was a place for it
-pub saw_place : (v w : View) (x : Literal) (n : ℕ) → v.parts ≡ only v ∷ [] → w ≡ after_see x (after_count n v) → Seen w → length (only v).core.seen < 2 * v.layout.vars
-saw_place v w x n one is s =
-    let parts = saw_parts v w x n one is in
-    let few = subst (λ (q : RingPart). length q.core.seen ≤ 2 * w.layout.vars) (only_is w (saw_part x n (only v)) parts) (few_seen w s (one_is w (saw_part x n (only v)) parts)) in
+pub saw_place : (v w : View) (x : Literal) (u n : ℕ) → v.parts ≡ only v ∷ [] → w ≡ after_sight x u n v → Seen w → length (only v).core.seen < 2 * v.layout.vars
+saw_place v w x u n one is s =
+    let parts = saw_parts v w x u n one is in
+    let few = subst (λ (q : RingPart). length q.core.seen ≤ 2 * w.layout.vars) (only_is w (saw_part x u n (only v)) parts) (few_seen w s (one_is w (saw_part x u n (only v)) parts)) in
     let vars = ap (λ (u : View). u.layout.vars) is in
     let long = length-append (only v).core.seen (x ∷ []) in
     omega arith
@@ -309,11 +316,11 @@ arrived_told seen arrived x told = all_last (λ (l : Literal). has (seen ++ x �
 pub arrived_distinct : (seen arrived : List Literal) (x : Literal) → distinct_lits arrived ≡ true → All (λ l. has seen l ≡ true) arrived → has seen x ≡ false → distinct_lits (arrived ++ x ∷ []) ≡ true
 arrived_distinct seen arrived x d told none = more_distinct arrived x d (is_false (has arrived x) (λ e. false≢true (sym none ∙ all_in (λ (l : Literal). has seen l ≡ true) arrived x (has_In arrived x e) told)))
 
-pub arrived_place : (v w : View) (x : Literal) (n : ℕ) (arrived : List Literal) → v.parts ≡ only v ∷ [] → w ≡ after_see x (after_count n v) → Seen w → distinct_lits arrived ≡ true → All (λ l. has (only v).core.seen l ≡ true) arrived → length arrived < 2 * v.layout.vars
-arrived_place v w x n arrived one is s d told =
-    let parts = saw_parts v w x n one is in
-    let few = few_arrived w s (one_is w (saw_part x n (only v)) parts) (arrived ++ x ∷ []) (arrived_distinct (only v).core.seen arrived x d told (saw_fresh v w x n one is s))
-    (subst (λ (q : RingPart). All (λ l. has q.core.seen l ≡ true) (arrived ++ x ∷ [])) (sym (only_is w (saw_part x n (only v)) parts)) (arrived_told (only v).core.seen arrived x told)) in
+pub arrived_place : (v w : View) (x : Literal) (u n : ℕ) (arrived : List Literal) → v.parts ≡ only v ∷ [] → w ≡ after_sight x u n v → Seen w → distinct_lits arrived ≡ true → All (λ l. has (only v).core.seen l ≡ true) arrived → length arrived < 2 * v.layout.vars
+arrived_place v w x u n arrived one is s d told =
+    let parts = saw_parts v w x u n one is in
+    let few = few_arrived w s (one_is w (saw_part x u n (only v)) parts) (arrived ++ x ∷ []) (arrived_distinct (only v).core.seen arrived x d told (saw_fresh v w x u n one is s))
+    (subst (λ (q : RingPart). All (λ l. has q.core.seen l ≡ true) (arrived ++ x ∷ [])) (sym (only_is w (saw_part x u n (only v)) parts)) (arrived_told (only v).core.seen arrived x told)) in
     let vars = ap (λ (u : View). u.layout.vars) is in
     let long = length-append arrived (x ∷ []) in
     omega arith
@@ -341,13 +348,13 @@ pub own_given : (p : RingPart) (o : Own) → o.passed < length o.arrived → IsO
 own_given p o lt own = record { passed = omega arith; distinct = own.distinct; told = own.told; taken = own.taken; ended_is = own.ended_is; refused_is = own.refused_is; faulty_is = own.faulty_is; making = own.making; listed = own.listed }
 
 -- a unit that was just seen is given
-pub gives_new : (v w : View) (s : Seen w) (o : Own) (x : Literal) (n : ℕ) (home : List ℕ) → v.parts ≡ only v ∷ [] → w ≡ after_see x (after_count n v) → IsOwn (only v) o → o.passed ≡ length o.arrived → home ≡ o.home → (only w).caught_up ≡ (only v).caught_up
+pub gives_new : (v w : View) (s : Seen w) (o : Own) (x : Literal) (u n : ℕ) (home : List ℕ) → v.parts ≡ only v ∷ [] → w ≡ after_sight x u n v → IsOwn (only v) o → o.passed ≡ length o.arrived → home ≡ o.home → (only w).caught_up ≡ (only v).caught_up
     → TookUnit (port_of v o) (port_of w (record o { arrived = o.arrived ++ x ∷ []; passed = o.passed + 1; home = home })) x
-gives_new v w s o x n home one is own all hm caught =
+gives_new v w s o x u n home one is own all hm caught =
     let p : RingPart = only v in
     let seen : List Literal = p.core.seen in
     let o' : Own = record o { arrived = o.arrived ++ x ∷ []; passed = o.passed + 1; home = home } in
-    let q : port_of w o' ≡ port_with v (saw_part x n p) o' = port_step v w (saw_part x n p) o' (saw_parts v w x n one is) (ap (λ (u : View). u.layout) is) (ap (λ (u : View). u.opening) is) (ap (λ (u : View). u.stop) is) (ap (λ (u : View). u.looks) is) in
+    let q : port_of w o' ≡ port_with v (saw_part x u n p) o' = port_step v w (saw_part x u n p) o' (saw_parts v w x u n one is) (ap (λ (u : View). u.layout) is) (ap (λ (u : View). u.opening) is) (ap (λ (u : View). u.stop) is) (ap (λ (u : View). u.looks) is) in
     let long = length-append o.arrived (x ∷ []) in
     let end : o.passed + 1 ≡ length (o.arrived ++ x ∷ []) = omega arith in
     let before : without_kept (kept o) seen ≡ seen = without_none (kept o) seen (ap (drop o.passed) (sym (append-nil o.arrived)) ∙ drop_all o.arrived [] o.passed all) in
@@ -356,29 +363,29 @@ gives_new v w s o x n home one is own all hm caught =
     ap (take (o.passed + 1)) (sym (append-nil (o.arrived ++ x ∷ []))) ∙ take_all (o.arrived ++ x ∷ []) [] (o.passed + 1) end
     ∙ (λ i. sym (ap (take o.passed) (sym (append-nil o.arrived)) ∙ take_all o.arrived [] o.passed all) i ++ x ∷ []) in
     let now : (port_of w o').seen ≡ seen ++ x ∷ [] = ap (λ (y : PortState). y.seen) q ∙ after in
-    let place = arrived_place v w x n o.arrived one is s own.distinct own.told in
+    let place = arrived_place v w x u n o.arrived one is s own.distinct own.told in
     let coming = ap (λ (y : PortState). y.coming) q in
     let none : length (o.arrived ++ x ∷ []) - (o.passed + 1) ≡ length o.arrived - o.passed - 1 = omega arith in
     record {
-      fresh = ap (λ (ls : List Literal). has ls x) before ∙ saw_fresh v w x n one is s;
+      fresh = ap (λ (ls : List Literal). has ls x) before ∙ saw_fresh v w x u n one is s;
       sees = subst (λ (z : List Literal × List Literal). Sees z.0 z.1 x) (λ i. (sym before i, sym now i)) (new_sees seen x);
       fewer = omega arith;
-      state = λ i. record (q i) { seen = (port_of w o').seen; given = (ap (λ (y : PortState). y.given) q ∙ given) i; coming = (port_of w o').coming; kept = none i; caught_up = min (caught i) (2 ^ 64 - 1); home = (ap (λ (y : PortState). y.home) q ∙ hm) i };
+      state = λ i. record (q i) { seen = (port_of w o').seen; told = (port_of w o').told; given = (ap (λ (y : PortState). y.given) q ∙ given) i; coming = (port_of w o').coming; kept = none i; caught_up = min (caught i) (2 ^ 64 - 1); home = (ap (λ (y : PortState). y.home) q ∙ hm) i };
     }
 
-pub own_new : (v w : View) (s : Seen w) (o : Own) (x : Literal) (n passed : ℕ) (home : List ℕ) → v.parts ≡ only v ∷ [] → w ≡ after_see x (after_count n v) → passed ≤ length o.arrived + 1 → IsOwn (only v) o → IsOwn (saw_part x n (only v)) (record o { arrived = o.arrived ++ x ∷ []; passed = passed; home = home })
-own_new v w s o x n passed home one is le own =
+pub own_new : (v w : View) (s : Seen w) (o : Own) (x : Literal) (u n passed : ℕ) (table home : List ℕ) → v.parts ≡ only v ∷ [] → w ≡ after_sight x u n v → passed ≤ length o.arrived + 1 → IsOwn (only v) o → IsOwn (saw_part x u n (only v)) (record o { arrived = o.arrived ++ x ∷ []; passed = passed; numbers = table; home = home })
+own_new v w s o x u n passed table home one is le own =
     let long = length-append o.arrived (x ∷ []) in
     record {
       passed = omega arith;
-      distinct = arrived_distinct (only v).core.seen o.arrived x own.distinct own.told (saw_fresh v w x n one is s);
+      distinct = arrived_distinct (only v).core.seen o.arrived x own.distinct own.told (saw_fresh v w x u n one is s);
       told = arrived_told (only v).core.seen o.arrived x own.told;
       taken = own.taken;
       ended_is = own.ended_is;
       refused_is = own.refused_is;
       faulty_is = own.faulty_is;
       making = own.making;
-      listed = listed_sees (only v) (saw_part x n (only v)) refl (λ l e. list_any-append (same l) (only v).core.seen (x ∷ []) ∙ or_left (has (only v).core.seen l) (has (x ∷ []) l) e) own.listed;
+      listed = listed_sees (only v) (saw_part x u n (only v)) refl (λ l e. list_any-append (same l) (only v).core.seen (x ∷ []) ∙ or_left (has (only v).core.seen l) (has (x ∷ []) l) e) own.listed;
     }
 
 -- none is left
@@ -401,26 +408,28 @@ gives_none v w o n home one is all hm h caught =
 
 -- a kept unit is given
 pub ring_given : {B : Type 0} {t : Shared B} {p : Seat (Option B) View} {n : ℕ} {st : List Cref} {o : Own} → IsRingPass t p n st o → o.passed < length o.arrived → IsRingPass t p n st (record o { passed = o.passed + 1 })
-ring_given {B} {t} {p} {n} {st} {o} r lt = record { pass = r.pass; slots = r.slots; one = r.one; ring = r.ring; free = r.free; home = r.home; start = r.start; own = own_given (only p.me.0) o lt r.own; alone_is = r.alone_is }
+ring_given {B} {t} {p} {n} {st} {o} r lt = record { pass = r.pass; slots = r.slots; one = r.one; ring = r.ring; free = r.free; home = r.home; hinted = r.hinted; numbers = r.numbers; start = r.start; own = own_given (only p.me.0) o lt r.own; alone_is = r.alone_is }
 
 pub port_given : {B : Type 0} {t : Shared B} {p : Seat (Option B) View} {n : ℕ} {st : List Cref} {o : Own} (s : PortState) (x : Literal) → IsRingPass t p n st o → port_of p.me.0 o ≡ s → o.passed < length o.arrived → x ≡ get_or o.arrived o.passed x → TookUnit s (port_of p.me.0 (record o { passed = o.passed + 1 })) x
 port_given {B} {t} {p} {n} {st} {o} s x r view lt e = subst (λ (y : PortState). TookUnit y (port_of p.me.0 (record o { passed = o.passed + 1 })) x) view (gives_kept p.me.0 r.pass.3 o x r.one r.own lt e)
 
 -- a new one is seen
-pub ring_sees : {B : Type 0} {t : Shared B} {p : Seat (Option B) View} {n : ℕ} {st : List Cref} {o : Own} (q : Seat (Option B) View) (x : Literal) (seen seen' more : List Literal) (passed : ℕ) → IsRingPass t p n st o → IsPassOf t q → IsSamePass p q → SawOne p.me.0 q.me.0 seen seen' o.arrived more x
-    → passed ≤ length o.arrived + 1 → IsRingPass t q n st (record o { arrived = more; passed = passed; home = home_of q })
-ring_sees {B} {t} {p} {n} {st} {o} q x seen seen' more passed r pass same saw le =
-    ring_changes q (saw_part x saw.listed (only p.me.0)) (record o { arrived = more; passed = passed; home = home_of q }) r pass same (ap (λ (u : View). u.opening) saw.view) (saw_parts p.me.0 q.me.0 x saw.listed r.one saw.view) refl refl refl
-    (subst (λ (ls : List Literal). IsOwn (saw_part x saw.listed (only p.me.0)) (record o { arrived = ls; passed = passed; home = home_of q })) (sym saw.arrived_is) (own_new p.me.0 q.me.0 pass.3 o x saw.listed passed (home_of q) r.one saw.view le r.own)) r.alone_is
+pub ring_sees : {B : Type 0} {t : Shared B} {p : Seat (Option B) View} {n : ℕ} {st : List Cref} {o : Own} (q : Seat (Option B) View) (x : Literal) (seen seen' more : List Literal) (passed : ℕ) (table : List ℕ) → IsRingPass t p n st o → IsPassOf t q → IsSamePass p q → SawOne p.me.0 q.me.0 seen seen' o.arrived more x
+    → passed ≤ length o.arrived + 1 → KeepsNumbers p.me.0 q.me.0 o.numbers table → IsRingPass t q n st (record o { arrived = more; passed = passed; numbers = table; home = home_of q })
+ring_sees {B} {t} {p} {n} {st} {o} q x seen seen' more passed table r pass same saw le keeps =
+    ring_changes q (saw_part x saw.number saw.listed (only p.me.0)) (record o { arrived = more; passed = passed; numbers = table; home = home_of q }) r pass same (ap (λ (u : View). u.opening) saw.view) (saw_parts p.me.0 q.me.0 x saw.number saw.listed r.one saw.view) refl refl refl
+    (subst (λ (ls : List Literal). IsOwn (saw_part x saw.number saw.listed (only p.me.0)) (record o { arrived = ls; passed = passed; numbers = table; home = home_of q })) (sym saw.arrived_is) (own_new p.me.0 q.me.0 pass.3 o x saw.number saw.listed passed table (home_of q) r.one saw.view le r.own)) r.alone_is
+    refl
+    (numbers_then p.me.0 q.me.0 (saw_part x saw.number saw.listed (only p.me.0)) o.numbers table (saw_parts p.me.0 q.me.0 x saw.number saw.listed r.one saw.view) (pass.2 ∙ sym r.pass.2) keeps)
 
 pub port_sees : {B : Type 0} {t : Shared B} {p : Seat (Option B) View} {n : ℕ} {st : List Cref} {o : Own} (q : Seat (Option B) View) (s : PortState) (x : Literal) (seen seen' more : List Literal) → IsRingPass t p n st o → IsPassOf t q → port_of p.me.0 o ≡ s → SawOne p.me.0 q.me.0 seen seen' o.arrived more x → o.passed ≡ length o.arrived
     → TookUnit s (port_of q.me.0 (record o { arrived = more; passed = o.passed + 1; home = home_of q })) x
 port_sees {B} {t} {p} {n} {st} {o} q s x seen seen' more r pass view saw all =
     subst (λ (y : PortState × List Literal). TookUnit y.0 (port_of q.me.0 (record o { arrived = y.1; passed = o.passed + 1; home = home_of q })) x) (λ i. (view i, sym saw.arrived_is i))
-    (gives_new p.me.0 q.me.0 pass.3 o x saw.listed (home_of q) r.one saw.view r.own all (name_stays q r pass) saw.caught_up)
+    (gives_new p.me.0 q.me.0 pass.3 o x saw.number saw.listed (home_of q) r.one saw.view r.own all (name_stays q r pass) saw.caught_up)
 
 pub room_sees : (v w : View) (x : Literal) (seen seen' arrived more : List Literal) (last : Option Cref) (ws : List Waiting) (room : ℕ) → v.parts ≡ only v ∷ [] → SawOne v w seen seen' arrived more x → HasRoom (only v) v.opening.rings last ws room → HasRoom (only w) w.opening.rings last ws room
-room_sees v w x seen seen' arrived more last ws room one saw m = room_turns v w (saw_part x saw.listed (only v)) last ws room (ap (λ (u : View). u.opening) saw.view) (saw_parts v w x saw.listed one saw.view) refl refl (omega arith) m
+room_sees v w x seen seen' arrived more last ws room one saw m = room_turns v w (saw_part x saw.number saw.listed (only v)) last ws room (ap (λ (u : View). u.opening) saw.view) (saw_parts v w x saw.number saw.listed one saw.view) refl refl (omega arith) m
 
 pub units_sees : (v w : View) (x : Literal) (seen seen' arrived more : List Literal) (a b a' b' : ℕ) → v.parts ≡ only v ∷ [] → SawOne v w seen seen' arrived more x → a' ≡ a → b' ≡ b → HasUnits (only v) v.layout.vars seen a b → HasUnits (only w) w.layout.vars seen' a' b'
 units_sees v w x seen seen' arrived more a b a' b' one saw ea eb m =
@@ -428,7 +437,7 @@ units_sees v w x seen seen' arrived more a b a' b' one saw ea eb m =
     let r1 = m.seen_room_is in
     let r2 = m.arrived_room_is in
     record {
-      all = saw.seen_is ∙ ap (λ (ls : List Literal). ls ++ x ∷ []) m.all ∙ sym (ap (λ (p : RingPart). p.core.seen) (only_is w (saw_part x saw.listed (only v)) (saw_parts v w x saw.listed one saw.view)));
+      all = saw.seen_is ∙ ap (λ (ls : List Literal). ls ++ x ∷ []) m.all ∙ sym (ap (λ (p : RingPart). p.core.seen) (only_is w (saw_part x saw.number saw.listed (only v)) (saw_parts v w x saw.number saw.listed one saw.view)));
       seen_room_is = omega arith;
       arrived_room_is = omega arith;
     }
@@ -437,10 +446,13 @@ units_sees v w x seen seen' arrived more a b a' b' one saw ea eb m =
 pub all_parts : (v w : View) (n : ℕ) → v.parts ≡ only v ∷ [] → w ≡ after_count n v → w.parts ≡ count_part n (only v) ∷ []
 all_parts v w n one is = one_changed (count_part n) v w one (ap (λ (u : View). u.parts) is)
 
-pub ring_sees_all : {B : Type 0} {t : Shared B} {p : Seat (Option B) View} {n : ℕ} {st : List Cref} {o : Own} (q : Seat (Option B) View) (count : ℕ) (seen seen' more : List Literal) → IsRingPass t p n st o → IsPassOf t q → IsSamePass p q → SawAll p.me.0 q.me.0 count seen seen' o.arrived more → IsRingPass t q n st (record o { arrived = more; home = home_of q })
-ring_sees_all {B} {t} {p} {n} {st} {o} q count seen seen' more r pass same saw =
-    ring_changes q (count_part count (only p.me.0)) (record o { arrived = more; home = home_of q }) r pass same (ap (λ (u : View). u.opening) saw.view) (all_parts p.me.0 q.me.0 count r.one saw.view) refl refl refl
-    (subst (λ (ls : List Literal). IsOwn (count_part count (only p.me.0)) (record o { arrived = ls; home = home_of q })) (sym saw.arrived_is) (record { passed = r.own.passed; distinct = r.own.distinct; told = r.own.told; taken = r.own.taken; ended_is = r.own.ended_is; refused_is = r.own.refused_is; faulty_is = r.own.faulty_is; making = r.own.making; listed = r.own.listed })) r.alone_is
+pub ring_sees_all : {B : Type 0} {t : Shared B} {p : Seat (Option B) View} {n : ℕ} {st : List Cref} {o : Own} (q : Seat (Option B) View) (count : ℕ) (seen seen' more : List Literal) (table : List ℕ) → IsRingPass t p n st o → IsPassOf t q → IsSamePass p q → SawAll p.me.0 q.me.0 count seen seen' o.arrived more
+    → KeepsNumbers p.me.0 q.me.0 o.numbers table → IsRingPass t q n st (record o { arrived = more; numbers = table; home = home_of q })
+ring_sees_all {B} {t} {p} {n} {st} {o} q count seen seen' more table r pass same saw keeps =
+    ring_changes q (count_part count (only p.me.0)) (record o { arrived = more; numbers = table; home = home_of q }) r pass same (ap (λ (u : View). u.opening) saw.view) (all_parts p.me.0 q.me.0 count r.one saw.view) refl refl refl
+    (subst (λ (ls : List Literal). IsOwn (count_part count (only p.me.0)) (record o { arrived = ls; numbers = table; home = home_of q })) (sym saw.arrived_is) (record { passed = r.own.passed; distinct = r.own.distinct; told = r.own.told; taken = r.own.taken; ended_is = r.own.ended_is; refused_is = r.own.refused_is; faulty_is = r.own.faulty_is; making = r.own.making; listed = r.own.listed })) r.alone_is
+    refl
+    (numbers_then p.me.0 q.me.0 (count_part count (only p.me.0)) o.numbers table (all_parts p.me.0 q.me.0 count r.one saw.view) (pass.2 ∙ sym r.pass.2) keeps)
 
 pub port_sees_all : {B : Type 0} {t : Shared B} {p : Seat (Option B) View} {n : ℕ} {st : List Cref} {o : Own} (q : Seat (Option B) View) (s : PortState) (count : ℕ) (seen seen' more : List Literal) → IsRingPass t p n st o → IsPassOf t q → port_of p.me.0 o ≡ s → SawAll p.me.0 q.me.0 count seen seen' o.arrived more → o.passed ≡ length o.arrived
     → TookNone s (port_of q.me.0 (record o { arrived = more; home = home_of q }))

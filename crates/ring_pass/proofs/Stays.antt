@@ -26,6 +26,8 @@ use Rattle.ring_pass.specs.declared.waiting.Waiting.{Waiting}
 use Rattle.ring_pass.specs.Looks.{OnlyLooked}
 use Rattle.ring_pass.specs.Refusals.{answer_noted}
 use Rattle.ring_pass.specs.RingState.{Own, port_with, port_of, home_of, IsOwn, AreWaiting, IsRingPass, HasRoom, HasUnits, pending, HasListed}
+use Rattle.ring_pass.specs.Numbers.{HasNumbers, KeepsNumbers}
+use Rattle.ring_pass.proofs.NumbersHere.{numbers_keep}
 use Rattle.ring_pass.proofs.RingPorts.{is_port, held_here, lits_here, head_here, home_same}
 
 -- Looks
@@ -55,6 +57,10 @@ holding_same v w a k h = (one_same v w k h.0, subst (λ (p : RingPart). 0 < time
 renamed : (p : RingPart) (o : Own) (home : List ℕ) → IsOwn p o → IsOwn p (record o { home = home })
 renamed p o home own = record { passed = own.passed; distinct = own.distinct; told = own.told; taken = own.taken; ended_is = own.ended_is; refused_is = own.refused_is; faulty_is = own.faulty_is; making = own.making; listed = own.listed }
 
+-- what is kept beside a pass
+abbrev pub own_in : {B : Type 0} {t : Shared B} {p : Seat (Option B) View} {n : ℕ} {st : List Cref} {o : Own} → IsRingPass t p n st o → Own
+own_in {B} {t} {p} {n} {st} {o} r = o
+
 -- the pass is the ring's still
 pub ring_stays : {B : Type 0} {t : Shared B} {p : Seat (Option B) View} {n : ℕ} {st : List Cref} {o : Own} (q : Seat (Option B) View) → IsRingPass t p n st o → IsPassOf t q → IsSamePass p q → OnlyLooked p.me.0 q.me.0 → IsRingPass t q n st (record o { home = home_of q })
 ring_stays {B} {t} {p} {n} {st} {o} q r pass same looked =
@@ -66,6 +72,8 @@ ring_stays {B} {t} {p} {n} {st} {o} q r pass same looked =
       ring = r.ring ∙ ap (λ (x : RingPart). x.core.ring) e;
       free = ap (λ (x : RingPart). x.turn) (sym e) ∙ r.free;
       home = refl;
+      hinted = r.hinted ∙ ap (λ (x : CoreOpening). x.hinted) (sym looked.opening);
+      numbers = λ h. numbers_keep (ap (λ (x : RingPart). x.core.seen) (sym e)) (ap (λ (x : RingPart). x.core.numbers) (sym e)) (ap (λ (l : Layout). l.vars) looked.layout) (r.numbers h);
       start = r.start ∙ ap (λ (x : CoreOpening). addresses x.starts) (sym looked.opening);
       own = subst (λ (x : RingPart). IsOwn x (record o { home = home_of q })) e (renamed (only p.me.0) o (home_of q) r.own);
       alone_is = λ lone f. r.alone_is (ap (λ (x : CoreOpening). x.rings) (sym looked.opening) ∙ lone) (ap (λ (x : RingPart). x.failed) e ∙ f);
@@ -117,14 +125,21 @@ only_is w x e = ap (λ (ps : List RingPart). slice_index_or ps 0 no_part) e
 pub one_is : (w : View) (x : RingPart) → w.parts ≡ x ∷ [] → w.parts ≡ only w ∷ []
 one_is w x e = e ∙ (λ i. sym (only_is w x e) i ∷ [])
 
+-- the table has the numbers of the units that this part has seen
+pub numbers_then : (v w : View) (x : RingPart) (old new : List ℕ) → w.parts ≡ x ∷ [] → w.layout ≡ v.layout → KeepsNumbers v w old new → HasNumbers (only v).core.seen (only v).core.numbers v.layout.vars old → HasNumbers x.core.seen x.core.numbers v.layout.vars new
+numbers_then v w x old new is layout keeps m =
+    let e : x ≡ only w = sym (only_is w x is) in
+    numbers_keep (ap (λ (y : RingPart). y.core.seen) e) (ap (λ (y : RingPart). y.core.numbers) e) (ap (λ (l : Layout). l.vars) (sym layout)) (keeps m)
+
 -- changed, it is still one
 pub one_changed : (f : RingPart → RingPart) (v w : View) → v.parts ≡ only v ∷ [] → w.parts ≡ on_first f v.parts → w.parts ≡ f (only v) ∷ []
 one_changed f v w one is = is ∙ ap (on_first f) one
 
 -- the pass is the ring's, with this part
 pub ring_changes : {B : Type 0} {t : Shared B} {p : Seat (Option B) View} {n : ℕ} {st : List Cref} {o : Own} (q : Seat (Option B) View) (x : RingPart) (o' : Own) → IsRingPass t p n st o → IsPassOf t q → IsSamePass p q
-    → q.me.0.opening ≡ p.me.0.opening → q.me.0.parts ≡ x ∷ [] → x.core.ring ≡ (only p.me.0).core.ring → x.turn ≡ (only p.me.0).turn → o'.home ≡ home_of q → IsOwn x o' → (p.me.0.opening.rings ≡ 1 → x.failed ≡ true → is_usable o'.refused ≡ false) → IsRingPass t q n st o'
-ring_changes {B} {t} {p} {n} {st} {o} q x o' r pass same opening is ring turn home own alone =
+    → q.me.0.opening ≡ p.me.0.opening → q.me.0.parts ≡ x ∷ [] → x.core.ring ≡ (only p.me.0).core.ring → x.turn ≡ (only p.me.0).turn → o'.home ≡ home_of q → IsOwn x o' → (p.me.0.opening.rings ≡ 1 → x.failed ≡ true → is_usable o'.refused ≡ false)
+    → o'.hinted ≡ o.hinted → (HasNumbers (only p.me.0).core.seen (only p.me.0).core.numbers p.me.0.layout.vars o.numbers → HasNumbers x.core.seen x.core.numbers p.me.0.layout.vars o'.numbers) → IsRingPass t q n st o'
+ring_changes {B} {t} {p} {n} {st} {o} q x o' r pass same opening is ring turn home own alone tells numbers =
     let e : x ≡ only q.me.0 = sym (only_is q.me.0 x is) in
     record {
       pass = pass;
@@ -133,6 +148,8 @@ ring_changes {B} {t} {p} {n} {st} {o} q x o' r pass same opening is ring turn ho
       ring = r.ring ∙ sym ring ∙ ap (λ (y : RingPart). y.core.ring) e;
       free = ap (λ (y : RingPart). y.turn) (sym e) ∙ turn ∙ r.free;
       home = home;
+      hinted = tells ∙ r.hinted ∙ ap (λ (y : CoreOpening). y.hinted) (sym opening);
+      numbers = λ h. numbers_keep (ap (λ (y : RingPart). y.core.seen) (sym e)) (ap (λ (y : RingPart). y.core.numbers) (sym e)) (ap (λ (l : Layout). l.vars) (pass.2 ∙ sym r.pass.2)) (numbers (r.numbers (sym tells ∙ h)));
       start = r.start ∙ ap (λ (y : CoreOpening). addresses y.starts) (sym opening);
       own = subst (λ (y : RingPart). IsOwn y o') e own;
       alone_is = λ lone f. alone (ap (λ (y : CoreOpening). y.rings) (sym opening) ∙ lone) (ap (λ (y : RingPart). y.failed) e ∙ f);

@@ -3,7 +3,7 @@ use Rattle.io_edge.specs.declared.edge.Sink.{Ghosts}
 use mathlib.Core.Logic.{dite}
 use native.Mathlib.Decide.{ℕ_discrete}
 use Rattle.std.proofs.Common.{◌≡◌, ◌≢◌, ℕ, ◌<◌, ◌≤◌, Bool, true, false, not, ◌&&◌, ◌||◌, List, [], ◌∷◌, ◌++◌, map, length, refl, sym, ap, subst, ◌∙◌, inl, inr, arith, Option, Some, None, length-append}
-use Rattle.std.specs.Prelude.{slice_index_or, Result, Ok, Err, OnOk, IfErr}
+use Rattle.std.specs.Prelude.{slice_index_or, Result, Ok, Err, OnOk, IfOk, IfErr}
 use Rattle.std.specs.List.{All, list_any}
 use Rattle.std.specs.Option.{option_map}
 use Rattle.std.proofs.lemmas.Bool.{true≢false, or_left, or_right}
@@ -28,14 +28,14 @@ use Rattle.share_core.proofs.Plainly.{recent_own}
 use Rattle.share_rule.specs.declared.Layout.{Layout}
 use Rattle.share_rule.specs.declared.Shared.{Shared}
 use Rattle.share_rule.specs.declared.note.Note.{Note}
-use Rattle.share_rule.specs.declared.note.Note.TheVariants.{Reduce}
+use Rattle.share_rule.specs.declared.note.Note.TheVariants.{Reduce, Unit as UnitNote}
 use Rattle.share_rule.specs.declared.view.Refusal.{Refusal}
 use Rattle.share_rule.specs.declared.view.RingPart.{RingPart}
 use Rattle.share_rule.specs.declared.view.View.{View}
 use Rattle.share_rule.specs.Passes.{IsPassOf}
 use Rattle.share_rule.specs.Seen.{Seen, IsPart}
 use Rattle.share_rule.specs.Steps.{on_first}
-use Rattle.share_rule.specs.Turns.{Sheet, MayNote, journal_in, sheet_after, written_of, take_part, give_part, after_give, newer}
+use Rattle.share_rule.specs.Turns.{Sheet, next_number, MayNote, journal_in, sheet_after, written_of, take_part, give_part, after_give, newer}
 use Rattle.share_rule.specs.Views.{only, no_part}
 use Rattle.share_rule.proofs.Moves.{turn_is}
 use Rattle.log_book.specs.declared.stop.TurnStop.{TurnStop}
@@ -51,7 +51,9 @@ use Rattle.ring_port.specs.PortState.{PortState}
 use Rattle.ring_port.specs.Reducing.{NotedReduce}
 use Rattle.ring_pass.specs.declared.waiting.Waiting.{Waiting}
 use Rattle.ring_pass.specs.Refusals.{port_stop, refused_after, ended_after, answer_noted}
+use Rattle.ring_pass.specs.Cells.{WroteUnitLine}
 use Rattle.ring_pass.specs.Writes.{entries_of, own_opening, sheet_with, KnowsJournal, GaveTurn, Wrote, IsWhy, TellsFault, WroteNone}
+use Rattle.ring_pass.specs.Numbers.{HasNumbers}
 use Rattle.ring_pass.specs.RingState.{Own, port_with, port_of, home_of, IsOwn, IsRingPass, HasRoom, HasUnits, AreWaiting}
 use Rattle.ring_pass.proofs.PollsHere.{port_step}
 use Rattle.ring_pass.proofs.RingPorts.{part_of, rings_here}
@@ -126,8 +128,9 @@ turn_given v w u J was ns ms x failed h is same still = record {
 
 -- the pass is the ring's again, with this part
 pub ring_turns : {B : Type 0} {t : Shared B} {p : Seat (Option B) View} {n : ℕ} {st : List Cref} {o : Own} (q : Seat (Option B) View) (x : RingPart) (o' : Own) → IsRingPass t p n st o → IsPassOf t q → q.id ≡ p.id → q.me.1 ≡ []
-    → q.me.0.opening ≡ p.me.0.opening → q.me.0.parts ≡ x ∷ [] → x.core.ring ≡ (only p.me.0).core.ring → x.turn ≡ None → o'.home ≡ home_of q → IsOwn x o' → (p.me.0.opening.rings ≡ 1 → x.failed ≡ true → is_usable o'.refused ≡ false) → IsRingPass t q n st o'
-ring_turns {B} {t} {p} {n} {st} {o} q x o' r pass id slots opening is ring turn home own alone = ring_changes q x o' r pass (id, slots ∙ sym r.slots) opening is ring (turn ∙ sym r.free) home own alone
+    → q.me.0.opening ≡ p.me.0.opening → q.me.0.parts ≡ x ∷ [] → x.core.ring ≡ (only p.me.0).core.ring → x.turn ≡ None → o'.home ≡ home_of q → IsOwn x o' → (p.me.0.opening.rings ≡ 1 → x.failed ≡ true → is_usable o'.refused ≡ false)
+    → o'.hinted ≡ o.hinted → (HasNumbers (only p.me.0).core.seen (only p.me.0).core.numbers p.me.0.layout.vars o.numbers → HasNumbers x.core.seen x.core.numbers p.me.0.layout.vars o'.numbers) → IsRingPass t q n st o'
+ring_turns {B} {t} {p} {n} {st} {o} q x o' r pass id slots opening is ring turn home own alone tells numbers = ring_changes q x o' r pass (id, slots ∙ sym r.slots) opening is ring (turn ∙ sym r.free) home own alone tells numbers
 
 -- its room is as it was, if nothing else waits and it wrote no less
 pub room_turns : (v u : View) (x : RingPart) (last : Option Cref) (ws : List Waiting) (room : ℕ) → u.opening ≡ v.opening → u.parts ≡ x ∷ [] → x.core.waiting ≡ (only v).core.waiting → x.core.shared ≡ (only v).core.shared → length (only v).core.wrote ≤ length x.core.wrote
@@ -295,6 +298,8 @@ ring_refused {B} {t} {p} {n} {st} {o} q e kept over r usable pass id slots h a b
     ring_turns q (give_part p.me.0.opening (sheet_with h.journal (only p.me.0)) h.refused h.failed (only p.me.0)) (record o { refused = kept; ended = over; home = home_of q }) r pass id slots h.gave.opening h.gave.parts refl refl refl
     (record { passed = r.own.passed; distinct = r.own.distinct; told = r.own.told; taken = r.own.taken; ended_is = λ k. end_refused p.me.0 o h.journal e r.own h.why (sym b ∙ k); refused_is = a ∙ answer_here p.me.0 q.me.0 o e r.own h; faulty_is = λ k. fault_refused p.me.0 q.me.0 o e r.own h (ap is_usable (sym a) ∙ k); making = r.own.making; listed = r.own.listed })
     (λ lone f. ap is_usable a ∙ fault_alone p.me.0 q.me.0 o e usable (r.alone_is lone) h lone f)
+    refl
+    (λ m. m)
 
 pub room_refused : (v u : View) (e : TurnStop) (last : Option Cref) (ws : List Waiting) (room : ℕ) → WroteNone v u e → HasRoom (only v) v.opening.rings last ws room → HasRoom (only u) u.opening.rings last ws room
 room_refused v u e last ws room h m = room_turns v u (give_part v.opening (sheet_with h.journal (only v)) h.refused h.failed (only v)) last ws room h.gave.opening h.gave.parts refl refl (omega arith) m
@@ -331,6 +336,22 @@ wrote_one {S} {d} {written} {flushed} {target} {faults} {v} {w} {t} {t'} u n one
       whole = g.whole;
       quiet = g.refused ∙ h.taken.refused;
     }
+
+-- with a unit, under the number that it was given
+pub wrote_unit_line : {S : Type 0} {d : Ghosts S} {written flushed target : S → Option (List ℕ)} {faults : S → ℕ} {v w : View} {t t' : Turn S d} (u : View) (kind : Kind) (lit : Literal) (hints : List ℕ) (number : ℕ) → v.parts ≡ only v ∷ [] → (h : WasTaken written flushed target faults v w t) → Seen w → Grown written flushed target faults w t t' (UnitNote kind lit hints)
+    → u ≡ after_give t'.noted.items t'.refused t'.book.log.lines.spent w → number ≡ next_number w.opening (sheet w t).journal → WroteUnitLine v u kind lit hints number
+unfolding wrote_one
+wrote_unit_line {S} {d} {written} {flushed} {target} {faults} {v} {w} {t} {t'} u kind lit hints number one h s g is n_is =
+    let has : HasTurn v w h.taken.book.journal t.book.log.lines.spent = turn_taken one h in
+    record {
+      wrote = wrote_one u (UnitNote kind lit hints) one h s g is;
+      number_is = n_is ∙ (λ i. next_number (has.opening i) (journal_taken v w t h.taken.book.journal t.book.log.lines.spent has h.taken.noted i));
+    }
+
+-- what holds of a number that was answered
+pub ok_number : {T E : Type 0} {G : Type 0} {P Q : T → Type 0} (r : Result T E) → (G → (x : T) → Q x → P x) → OnOk r G → IfOk r Q → IfOk r P
+ok_number (Ok x) f g q = f g x q
+ok_number (Err e) f g q = tt
 
 -- a turn with none
 pub wrote_none : {S : Type 0} {d : Ghosts S} {written flushed target : S → Option (List ℕ)} {faults : S → ℕ} {v w : View} {t t' : Turn S d} (u : View) (e : TurnStop) → v.parts ≡ only v ∷ [] → (h : WasTaken written flushed target faults v w t) → Seen w → TurnRefused written flushed target faults w t t' e
@@ -423,6 +444,8 @@ ring_reduced {B} {t} {p} {n} {st} {o} q ts r pass id slots h none =
       listed = listed_last (only p.me.0) (reduced_part p.me.0 h.journal h.refused h.failed) (record { place = length h.journal; entry = ReduceEntry (only p.me.0).core.ring }) refl refl (λ l. refl) r.own.listed;
     })
     (λ _ e. absurd (true≢false (sym e ∙ h.whole)))
+    refl
+    (λ m. m)
 
 pub room_reduced : (v u : View) (last : Option Cref) (ws : List Waiting) (room : ℕ) → Wrote v u Reduce → HasRoom (only v) v.opening.rings last ws room → HasRoom (only u) u.opening.rings last ws room
 room_reduced v u last ws room h m =

@@ -1,20 +1,19 @@
 -- The unit that the port writes.
 use Rattle.std.proofs.Common.{◌≡◌, ℕ, zero, suc, ◌-◌, ◌<◌, ◌≤◌, Bool, true, false, not, ◌&&◌, ◌||◌, List, [], ◌∷◌, ◌++◌, length, get_or, take, drop, refl, sym, ap, subst, ◌∙◌, inl, inr, arith, Option, None, length-append}
-use Rattle.std.specs.List.{All, list_any}
+use Rattle.std.specs.List.{All, zip}
 use Rattle.std.specs.Prelude.{min, ◌^◌}
 use Rattle.std.proofs.lemmas.Bool.{false≢true, true≢false, or_left, or_right}
 use Rattle.std.proofs.lemmas.List.Folds.{list_any-append}
 use Rattle.sat_words.specs.Literal.{Literal, same}
-use Rattle.sat_words.specs.Clause.{has, distinct_lits, same_set}
+use Rattle.sat_words.specs.Clause.{has, distinct_lits}
 use Rattle.sat_words.specs.declared.shared.Cref.{Cref}
 use Rattle.sat_words.proofs.Members.{same-refl, same-true}
 use Rattle.rup_model.specs.declared.journal.Entry.{Entry}
 use Rattle.rup_model.specs.declared.journal.Entry.TheVariants.{Add}
 use Rattle.rup_model.specs.declared.journal.Kind.{Kind}
 use Rattle.rup_model.specs.declared.journal.Kind.TheVariants.{Learn, UnitLine}
-use Rattle.rup_model.specs.Journal.{added, ended}
-use Rattle.rup_model.proofs.Additions.{added-append}
-use Rattle.rup_model.proofs.Lists.{In, has_In, In_has}
+use Rattle.rup_model.specs.Journal.{ended}
+use Rattle.rup_model.proofs.Lists.{In, has_In, In_has, In_append_right, In_Contains}
 use Rattle.rup_model.proofs.ProgramOpening.{All_from_In}
 use Rattle.atomic_table.specs.declared.shared.Seat.{Seat}
 use Rattle.share_core.specs.declared.part.CoreOpening.{CoreOpening}
@@ -32,18 +31,22 @@ use Rattle.share_rule.specs.Layout.{InVars}
 use Rattle.share_rule.specs.Passes.{IsPassOf}
 use Rattle.share_rule.specs.Turns.{IsFree, next_number, sheet_after, give_part, newer}
 use Rattle.share_rule.specs.Views.{only}
-use Rattle.ring_port.specs.Port.{WroteUnit, Sees}
+use Rattle.ring_port.specs.Port.{WroteUnit, EndsWith, Sees}
 use Rattle.ring_port.specs.PortState.{PortState, IsOn}
 use Rattle.ring_pass.specs.declared.waiting.Waiting.{Waiting}
 use Rattle.ring_pass.specs.RingState.{Own, kept, without_kept, port_with, port_of, home_of, IsOwn, IsRingPass, HasRoom, HasUnits, CanOffer}
 use Rattle.ring_pass.specs.declared.spares.Spares.{Spares}
 use Rattle.std.specs.Option.{option_map}
 use Rattle.ring_pass.proofs.CanOffers.{offer_turns}
-use Rattle.ring_pass.specs.Sights.{Listed, LeftOut, wrote_unit}
+use Rattle.ring_pass.specs.Sights.{Listed, LeftOut, HasNumbered}
+use Rattle.ring_pass.specs.Cells.{WroteUnitLine}
 use Rattle.ring_pass.specs.Writes.{entries_of, sheet_with, Wrote}
+use Rattle.ring_pass.proofs.EndsHere.{ends_here}
 use Rattle.ring_pass.proofs.PollsHere.{port_step}
 use Rattle.ring_pass.proofs.SeenHere.{less_counted, filter_passes, rest_distinct}
-use Rattle.ring_pass.proofs.Stays.{only_is, one_is}
+use Rattle.ring_pass.specs.Numbers.{KeepsNumbers}
+use Rattle.ring_pass.proofs.NumbersHere.{numbers_keep}
+use Rattle.ring_pass.proofs.Stays.{only_is, one_is, numbers_then}
 use Rattle.ring_pass.proofs.TurnsHere.{mine_last, ticket_as, port_going, ring_turns, room_turns, units_turns}
 use Rattle.ring_pass.proofs.Units.{filter_In, In_filter, head_else}
 use Rattle.ring_pass.specs.Refusals.{answer_noted}
@@ -52,45 +55,47 @@ use Rattle.ring_pass.proofs.AllListed.{listed_unit}
 -- The line
 
 -- the ring's part after it
-abbrev pub unit_line : View → List Entry → Kind → Literal → Option Refusal → Bool → RingPart
-unit_line v J kind lit x failed = give_part v.opening (sheet_after v.opening (only v).core.ring (sheet_with J (only v)) (UnitNote kind lit ∷ [])) x failed (only v)
+abbrev pub unit_line : View → List Entry → Kind → Literal → List ℕ → Option Refusal → Bool → RingPart
+unit_line v J kind lit hints x failed = give_part v.opening (sheet_after v.opening (only v).core.ring (sheet_with J (only v)) (UnitNote kind lit hints ∷ [])) x failed (only v)
 
-abbrev pub unit_entry : View → List Entry → Kind → Literal → Entry
-unit_entry v J kind lit = Add (record { ring = (only v).core.ring; number = next_number v.opening J; lits = lit ∷ []; kind = kind; hints = [] })
+abbrev pub unit_entry : View → List Entry → Kind → Literal → List ℕ → Entry
+unit_entry v J kind lit hints = Add (record { ring = (only v).core.ring; number = next_number v.opening J; lits = lit ∷ []; kind = kind; hints = hints })
 
-pub line_is : {v u : View} {kind : Kind} {lit : Literal} (h : Wrote v u (UnitNote kind lit)) → only u ≡ unit_line v h.journal kind lit h.refused h.failed
-line_is {v} {u} {kind} {lit} h = only_is u (unit_line v h.journal kind lit h.refused h.failed) h.gave.parts
+pub line_is : {v u : View} {kind : Kind} {lit : Literal} {hints : List ℕ} (h : Wrote v u (UnitNote kind lit hints)) → only u ≡ unit_line v h.journal kind lit hints h.refused h.failed
+line_is {v} {u} {kind} {lit} {hints} h = only_is u (unit_line v h.journal kind lit hints h.refused h.failed) h.gave.parts
 
-pub line_free : {v u : View} {kind : Kind} {lit : Literal} (r : ℕ) → Wrote v u (UnitNote kind lit) → r ≡ (only v).core.ring → IsFree u × (r ≡ (only u).core.ring)
-line_free {v} {u} {kind} {lit} r h e =
-    let x : RingPart = unit_line v h.journal kind lit h.refused h.failed in
+pub line_free : {v u : View} {kind : Kind} {lit : Literal} {hints : List ℕ} (r : ℕ) → Wrote v u (UnitNote kind lit hints) → r ≡ (only v).core.ring → IsFree u × (r ≡ (only u).core.ring)
+line_free {v} {u} {kind} {lit} {hints} r h e =
+    let x : RingPart = unit_line v h.journal kind lit hints h.refused h.failed in
     ((one_is u x h.gave.parts, ap (λ (p : RingPart). p.turn) (line_is h)), e ∙ sym (ap (λ (p : RingPart). p.core.ring) (line_is h)))
 
--- the ring wrote it
-pub line_wrote : {v u : View} {kind : Kind} {lit : Literal} → Wrote v u (UnitNote kind lit) → wrote_unit (only u) lit ≡ true
-line_wrote {v} {u} {kind} {lit} h =
-    let e : Entry = unit_entry v h.journal kind lit in
-    let is : entries_of (only u) ≡ entries_of (only v) ++ e ∷ [] = ap entries_of (line_is h) ∙ mine_last (only v).core.wrote (record { place = length h.journal; entry = e }) in
-    let P : List Literal → Bool = same_set (lit ∷ []) in
-    ap (λ (es : List Entry). list_any P (added es)) is ∙ ap (list_any P) (added-append (entries_of (only v)) (e ∷ [])) ∙ list_any-append P (added (entries_of (only v))) ((lit ∷ []) ∷ [])
-    ∙ or_right (list_any P (added (entries_of (only v)))) (list_any P ((lit ∷ []) ∷ [])) (mine lit)
-  where
-    mine : (l : Literal) → list_any (same_set (l ∷ [])) ((l ∷ []) ∷ []) ≡ true
-    mine l = (λ i. (((same-refl l i || false) && true) && ((same-refl l i || false) && true)) || false)
+-- the ring wrote it under this number
+pub line_numbered : {v u : View} {kind : Kind} {lit : Literal} {hints : List ℕ} {number : ℕ} → WroteUnitLine v u kind lit hints number → HasNumbered (only u) lit number
+line_numbered {v} {u} {kind} {lit} {hints} {number} h =
+    let w : Wrote v u (UnitNote kind lit hints) = h.wrote in
+    let e : Entry = unit_entry v w.journal kind lit hints in
+    let is : entries_of (only u) ≡ entries_of (only v) ++ e ∷ [] = ap entries_of (line_is w) ∙ mine_last (only v).core.wrote (record { place = length w.journal; entry = e }) in
+    let there : In e (entries_of (only u)) = subst (In e) (sym is) (In_append_right (entries_of (only v)) (e ∷ []) e (inl refl)) in
+    let ring : (only v).core.ring ≡ (only u).core.ring = sym (ap (λ (p : RingPart). p.core.ring) (line_is w)) in (
+      kind,
+      hints,
+      In_Contains (entries_of (only u)) (Add (record { ring = (only u).core.ring; number = number; lits = lit ∷ []; kind = kind; hints = hints }))
+          (subst (λ (y : ℕ × ℕ). In (Add (record { ring = y.0; number = y.1; lits = lit ∷ []; kind = kind; hints = hints })) (entries_of (only u))) (λ i. (ring i, sym h.number_is i)) there),
+    )
 
-pub line_units : {v u : View} {kind : Kind} {lit : Literal} (seen : List Literal) (a b : ℕ) → Wrote v u (UnitNote kind lit) → HasUnits (only v) v.layout.vars seen a b → HasUnits (only u) u.layout.vars seen a b
-line_units {v} {u} {kind} {lit} seen a b h m = units_turns v u (unit_line v h.journal kind lit h.refused h.failed) seen a b h.gave.layout h.gave.parts refl m
+pub line_units : {v u : View} {kind : Kind} {lit : Literal} {hints : List ℕ} (seen : List Literal) (a b : ℕ) → Wrote v u (UnitNote kind lit hints) → HasUnits (only v) v.layout.vars seen a b → HasUnits (only u) u.layout.vars seen a b
+line_units {v} {u} {kind} {lit} {hints} seen a b h m = units_turns v u (unit_line v h.journal kind lit hints h.refused h.failed) seen a b h.gave.layout h.gave.parts refl m
 
-pub line_told : {v u : View} {kind : Kind} {lit : Literal} (arrived : List Literal) → Wrote v u (UnitNote kind lit) → All (λ l. has (only v).core.seen l ≡ true) arrived → All (λ l. has (only u).core.seen l ≡ true) arrived
-line_told {v} {u} {kind} {lit} arrived h told = subst (λ (p : RingPart). All (λ l. has p.core.seen l ≡ true) arrived) (sym (line_is h)) told
+pub line_told : {v u : View} {kind : Kind} {lit : Literal} {hints : List ℕ} (arrived : List Literal) → Wrote v u (UnitNote kind lit hints) → All (λ l. has (only v).core.seen l ≡ true) arrived → All (λ l. has (only u).core.seen l ≡ true) arrived
+line_told {v} {u} {kind} {lit} {hints} arrived h told = subst (λ (p : RingPart). All (λ l. has p.core.seen l ≡ true) arrived) (sym (line_is h)) told
 
-pub line_room : {v u : View} {kind : Kind} {lit : Literal} (last : Option Cref) (ws : List Waiting) (room : ℕ) → Wrote v u (UnitNote kind lit) → HasRoom (only v) v.opening.rings last ws room → HasRoom (only u) u.opening.rings last ws room
-line_room {v} {u} {kind} {lit} last ws room h m =
-    let long = length-append (only v).core.wrote (record { place = length h.journal; entry = unit_entry v h.journal kind lit } ∷ []) in
-    room_turns v u (unit_line v h.journal kind lit h.refused h.failed) last ws room h.gave.opening h.gave.parts refl refl (omega arith) m
+pub line_room : {v u : View} {kind : Kind} {lit : Literal} {hints : List ℕ} (last : Option Cref) (ws : List Waiting) (room : ℕ) → Wrote v u (UnitNote kind lit hints) → HasRoom (only v) v.opening.rings last ws room → HasRoom (only u) u.opening.rings last ws room
+line_room {v} {u} {kind} {lit} {hints} last ws room h m =
+    let long = length-append (only v).core.wrote (record { place = length h.journal; entry = unit_entry v h.journal kind lit hints } ∷ []) in
+    room_turns v u (unit_line v h.journal kind lit hints h.refused h.failed) last ws room h.gave.opening h.gave.parts refl refl (omega arith) m
 
-pub line_on : {v u : View} {kind : Kind} {lit : Literal} → Wrote v u (UnitNote kind lit) → InVars v.layout (lit ∷ []) → InVars u.layout (lit ∷ [])
-line_on {v} {u} {kind} {lit} h on = subst (λ (l : Layout). InVars l (lit ∷ [])) (sym h.gave.layout) on
+pub line_on : {v u : View} {kind : Kind} {lit : Literal} {hints : List ℕ} → Wrote v u (UnitNote kind lit hints) → InVars v.layout (lit ∷ []) → InVars u.layout (lit ∷ [])
+line_on {v} {u} {kind} {lit} {hints} h on = subst (λ (l : Layout). InVars l (lit ∷ [])) (sym h.gave.layout) on
 
 pub unit_on : (v : View) (o : Own) (s : PortState) (lit : Literal) → port_of v o ≡ s → IsOn s.vars lit → InVars v.layout (lit ∷ [])
 unit_on v o s lit view on = subst (λ (y : PortState). IsOn y.vars lit → InVars v.layout (lit ∷ [])) view (λ h. All_from_In (λ (k : Literal). (1 ≤ k.var) × (k.var ≤ v.layout.vars)) (lit ∷ []) (λ k i. by k i h)) on
@@ -154,22 +159,23 @@ sees_written seen seen' arrived news arrived' last passed lit sees apart le is o
 
 -- The port
 
-pub unit_put : {v w u : View} {kind : Kind} {lit : Literal} {arrived' last : List Literal} (o : Own) (home : List ℕ) (cell : Option Cref) → IsOwn (only v) o → Wrote v w (UnitNote kind lit) → Listed w u o.arrived arrived' lit → LeftOut o.passed lit arrived' last → home ≡ o.home
+pub unit_put : {v w u : View} {kind : Kind} {lit : Literal} {hints : List ℕ} {arrived' last : List Literal} (o : Own) (home : List ℕ) (cell : Option Cref) → IsOwn (only v) o → Wrote v w (UnitNote kind lit hints) → Listed w u o.arrived arrived' lit → LeftOut o.passed lit arrived' last → home ≡ o.home
     → WroteUnit (port_of v o) (port_of u (record o { arrived = last; last = cell; home = home })) lit kind (option_map (λ (c : Cref). c.address) cell)
-unit_put {v} {w} {u} {kind} {lit} {arrived'} {last} o home cell own h l out hm = record {
+unit_put {v} {w} {u} {kind} {lit} {hints} {arrived'} {last} o home cell own h l out hm = record {
   number = next_number v.opening h.journal;
+  hints = hints;
   going = port_going v o h.journal own h.knows h.going;
   sees = subst (λ (ls : List Literal). Sees (without_kept (kept o) seen) (without_kept (drop o.passed last) ls) lit) (sym now)
       (sees_written seen l.part.core.seen o.arrived l.news arrived' last o.passed lit (λ k. l.sees k ∙ ap (λ (ls : List Literal). has (ls ++ l.news) k || same lit k) before) (λ k e. ap (λ (ls : List Literal). has ls k) (sym before) ∙ l.apart k e) own.passed l.arrived_is out);
   looked = less_counted (2 ^ 64 - 1) (only v).caught_up (only u).caught_up more;
-  state = q ∙ (λ i. record (port_with v line o') { ticket = ticket_as kind (only v).core.ticket i; seen = without_kept (drop o.passed last) (sym now i); given = given i; caught_up = min (sym caught i) (2 ^ 64 - 1); mine = mine_last (only v).core.wrote (record { place = length h.journal; entry = unit_entry v h.journal kind lit }) i; home = hm i });
+  state = q ∙ (λ i. record (port_with v line o') { ticket = ticket_as kind (only v).core.ticket i; seen = without_kept (drop o.passed last) (sym now i); told = zip (sym now i) (sym now_numbers i); given = given i; caught_up = min (sym caught i) (2 ^ 64 - 1); mine = mine_last (only v).core.wrote (record { place = length h.journal; entry = unit_entry v h.journal kind lit hints }) i; home = hm i });
 }
   where
     seen : List Literal
     seen = (only v).core.seen
 
     line : RingPart
-    line = unit_line v h.journal kind lit h.refused h.failed
+    line = unit_line v h.journal kind lit hints h.refused h.failed
 
     o' : Own
     o' = record o { arrived = last; last = cell; home = home }
@@ -180,8 +186,11 @@ unit_put {v} {w} {u} {kind} {lit} {arrived'} {last} o home cell own h l out hm =
     now : (only u).core.seen ≡ l.part.core.seen
     now = ap (λ (p : RingPart). p.core.seen) (only_is u l.part l.parts)
 
-    core : l.part.core ≡ record line.core { seen = l.part.core.seen }
-    core = l.core ∙ (λ i. record (line_is h i).core { seen = l.part.core.seen })
+    now_numbers : (only u).core.numbers ≡ l.part.core.numbers
+    now_numbers = ap (λ (p : RingPart). p.core.numbers) (only_is u l.part l.parts)
+
+    core : l.part.core ≡ record line.core { seen = l.part.core.seen; numbers = l.part.core.numbers }
+    core = l.core ∙ (λ i. record (line_is h i).core { seen = l.part.core.seen; numbers = l.part.core.numbers })
 
     given : take o.passed last ≡ take o.passed o.arrived
     given = out.front ∙ ap (take o.passed) l.arrived_is ∙ take_front o.passed o.arrived l.news own.passed
@@ -192,51 +201,64 @@ unit_put {v} {w} {u} {kind} {lit} {arrived'} {last} o home cell own h l out hm =
     more : (only v).caught_up ≤ (only u).caught_up
     more = subst (λ (y : ℕ × ℕ). y.0 ≤ y.1) (λ i. (ap (λ (p : RingPart). p.caught_up) (line_is h) i, sym caught i)) l.caught_up
 
-    q : port_of u o' ≡ record (port_with v line o') { seen = without_kept (drop o.passed last) l.part.core.seen; caught_up = min l.part.caught_up (2 ^ 64 - 1) }
+    q : port_of u o' ≡ record (port_with v line o') { seen = without_kept (drop o.passed last) l.part.core.seen; told = zip l.part.core.seen l.part.core.numbers; caught_up = min l.part.caught_up (2 ^ 64 - 1) }
     q = port_step v u l.part o' l.parts (l.layout ∙ h.gave.layout) (l.opening ∙ h.gave.opening) (l.stop ∙ h.gave.stop) (l.looks ∙ h.gave.looks)
         ∙ (λ i. port_with v (record l.part { core = core i; glues = (l.glues ∙ ap (λ (p : RingPart). p.glues) (line_is h)) i; polls = (l.polls ∙ ap (λ (p : RingPart). p.polls) (line_is h)) i }) o')
 
 -- as a call tells it
-pub unit_as : {v w u : View} {lit : Literal} {arrived' last : List Literal} (o : Own) (s : PortState) (home : List ℕ) → port_of v o ≡ s → IsOwn (only v) o → Wrote v w (UnitNote UnitLine lit) → Listed w u o.arrived arrived' lit → LeftOut o.passed lit arrived' last → home ≡ o.home
+pub unit_as : {v w u : View} {lit : Literal} {hints : List ℕ} {arrived' last : List Literal} (o : Own) (s : PortState) (home : List ℕ) → port_of v o ≡ s → IsOwn (only v) o → Wrote v w (UnitNote UnitLine lit hints) → Listed w u o.arrived arrived' lit → LeftOut o.passed lit arrived' last → home ≡ o.home
     → WroteUnit s (port_of u (record o { arrived = last; home = home })) lit UnitLine s.last
-unit_as {v} {w} {u} {lit} {arrived'} {last} o s home view own h l out hm = subst (λ (y : PortState). WroteUnit y (port_of u (record o { arrived = last; home = home })) lit UnitLine y.last) view (unit_put o home o.last own h l out hm)
+unit_as {v} {w} {u} {lit} {hints} {arrived'} {last} o s home view own h l out hm = subst (λ (y : PortState). WroteUnit y (port_of u (record o { arrived = last; home = home })) lit UnitLine y.last) view (unit_put o home o.last own h l out hm)
 
-pub learned_as : {v w u : View} {lit : Literal} {arrived' last : List Literal} (o : Own) (s : PortState) (home : List ℕ) → port_of v o ≡ s → IsOwn (only v) o → Wrote v w (UnitNote Learn lit) → Listed w u o.arrived arrived' lit → LeftOut o.passed lit arrived' last → home ≡ o.home
+pub learned_as : {v w u : View} {lit : Literal} {hints : List ℕ} {arrived' last : List Literal} (o : Own) (s : PortState) (home : List ℕ) → port_of v o ≡ s → IsOwn (only v) o → Wrote v w (UnitNote Learn lit hints) → Listed w u o.arrived arrived' lit → LeftOut o.passed lit arrived' last → home ≡ o.home
     → WroteUnit s (port_of u (record o { arrived = last; last = None; home = home })) lit Learn None
-learned_as {v} {w} {u} {lit} {arrived'} {last} o s home view own h l out hm = subst (λ (y : PortState). WroteUnit y (port_of u (record o { arrived = last; last = None; home = home })) lit Learn None) view (unit_put o home None own h l out hm)
+learned_as {v} {w} {u} {lit} {hints} {arrived'} {last} o s home view own h l out hm = subst (λ (y : PortState). WroteUnit y (port_of u (record o { arrived = last; last = None; home = home })) lit Learn None) view (unit_put o home None own h l out hm)
+
+-- its line is the ring's last
+pub unit_ends : {v w u : View} {kind : Kind} {lit : Literal} {hints : List ℕ} {arrived arrived' : List Literal} → Wrote v w (UnitNote kind lit hints) → Listed w u arrived arrived' lit → (o : Own) → EndsWith (port_of u o) hints
+unit_ends {v} {w} {u} {kind} {lit} {hints} {arrived} {arrived'} h l o =
+    let now = only_is u l.part l.parts in
+    let ring : (only v).core.ring ≡ (only u).core.ring = sym (ap (λ (p : RingPart). p.core.ring) now ∙ ap (λ (c : Part). c.ring) l.core ∙ ap (λ (p : RingPart). p.core.ring) (line_is h)) in
+    ends_here u o (only v).core.wrote (length h.journal) (next_number v.opening h.journal) (lit ∷ []) kind hints
+    (ap (λ (p : RingPart). p.core.wrote) now ∙ ap (λ (c : Part). c.wrote) l.core ∙ ap (λ (p : RingPart). p.core.wrote) (line_is h)
+    ∙ (λ i. (only v).core.wrote ++ record { place = length h.journal; entry = Add (record { ring = ring i; number = next_number v.opening h.journal; lits = lit ∷ []; kind = kind; hints = hints }) } ∷ []))
 
 -- what was seen before is seen still
-unit_sees : {v w u : View} {kind : Kind} {lit : Literal} {arrived arrived' : List Literal} (h : Wrote v w (UnitNote kind lit)) (l : Listed w u arrived arrived' lit) (k : Literal) → has (only v).core.seen k ≡ true → has l.part.core.seen k ≡ true
-unit_sees {v} {w} {u} {kind} {lit} {arrived} {arrived'} h l k e =
+unit_sees : {v w u : View} {kind : Kind} {lit : Literal} {hints : List ℕ} {arrived arrived' : List Literal} (h : Wrote v w (UnitNote kind lit hints)) (l : Listed w u arrived arrived' lit) (k : Literal) → has (only v).core.seen k ≡ true → has l.part.core.seen k ≡ true
+unit_sees {v} {w} {u} {kind} {lit} {hints} {arrived} {arrived'} h l k e =
     l.sees k
     ∙ or_left (has ((only w).core.seen ++ l.news) k) (same lit k) (list_any-append (same k) (only w).core.seen l.news ∙ or_left (has (only w).core.seen k) (has l.news k) (ap (λ (p : RingPart). has p.core.seen k) (line_is h) ∙ e))
 
 -- and so is the unit
-unit_seen : {v w u : View} {kind : Kind} {lit : Literal} {arrived arrived' : List Literal} (h : Wrote v w (UnitNote kind lit)) (l : Listed w u arrived arrived' lit) → has l.part.core.seen lit ≡ true
-unit_seen {v} {w} {u} {kind} {lit} {arrived} {arrived'} h l =
+unit_seen : {v w u : View} {kind : Kind} {lit : Literal} {hints : List ℕ} {arrived arrived' : List Literal} (h : Wrote v w (UnitNote kind lit hints)) (l : Listed w u arrived arrived' lit) → has l.part.core.seen lit ≡ true
+unit_seen {v} {w} {u} {kind} {lit} {hints} {arrived} {arrived'} h l =
     l.sees lit ∙ or_right (has ((only w).core.seen ++ l.news) lit) (same lit lit) (same-refl lit)
 
-pub ring_unit : {B : Type 0} {t : Shared B} {p : Seat (Option B) View} {n : ℕ} {st : List Cref} {o : Own} {w : View} {kind : Kind} {lit : Literal} {arrived' last : List Literal} (q : Seat (Option B) View) (cell : Option Cref) → IsRingPass t p n st o → IsPassOf t q → q.id ≡ p.id → q.me.1 ≡ [] → Wrote p.me.0 w (UnitNote kind lit) → Listed w q.me.0 o.arrived arrived' lit → LeftOut o.passed lit arrived' last
-    → IsRingPass t q n st (record o { arrived = last; last = cell; home = home_of q })
-ring_unit {B} {t} {p} {n} {st} {o} {w} {kind} {lit} {arrived'} {last} q cell r pass id slots h l out =
-    let line : RingPart = unit_line p.me.0 h.journal kind lit h.refused h.failed in
+pub ring_unit : {B : Type 0} {t : Shared B} {p : Seat (Option B) View} {n : ℕ} {st : List Cref} {o : Own} {w : View} {kind : Kind} {lit : Literal} {hints : List ℕ} {arrived' last : List Literal} (q : Seat (Option B) View) (cell : Option Cref) (table : List ℕ) → IsRingPass t p n st o → IsPassOf t q → q.id ≡ p.id → q.me.1 ≡ [] → Wrote p.me.0 w (UnitNote kind lit hints) → Listed w q.me.0 o.arrived arrived' lit → LeftOut o.passed lit arrived' last
+    → KeepsNumbers w q.me.0 o.numbers table → IsRingPass t q n st (record o { arrived = last; last = cell; numbers = table; home = home_of q })
+ring_unit {B} {t} {p} {n} {st} {o} {w} {kind} {lit} {hints} {arrived'} {last} q cell table r pass id slots h l out keeps =
+    let line : RingPart = unit_line p.me.0 h.journal kind lit hints h.refused h.failed in
     let is : only w ≡ line = line_is h in
-    let core : l.part.core ≡ record (only w).core { seen = l.part.core.seen } = l.core in
-    ring_turns q l.part (record o { arrived = last; last = cell; home = home_of q }) r pass id slots (l.opening ∙ h.gave.opening) l.parts (ap (λ (c : Part). c.ring) core ∙ ap (λ (x : RingPart). x.core.ring) is) l.turn refl (record {
+    let core : l.part.core ≡ record (only w).core { seen = l.part.core.seen; numbers = l.part.core.numbers } = l.core in
+    ring_turns q l.part (record o { arrived = last; last = cell; numbers = table; home = home_of q }) r pass id slots (l.opening ∙ h.gave.opening) l.parts (ap (λ (c : Part). c.ring) core ∙ ap (λ (x : RingPart). x.core.ring) is) l.turn refl (record {
       passed = out.passed_is;
       distinct = out.distinct;
       told = All_from_In (λ (x : Literal). has l.part.core.seen x ≡ true) last (λ x i. all_in (λ (y : Literal). has l.part.core.seen y ≡ true) arrived' x (has_In arrived' x (out.among x (In_has last x i))) l.told);
       taken = subst (λ (hs : List ClauseAt). All (λ c. 0 < times_at c.address hs) o.taken) (sym (ap (λ (c : Part). c.held) core ∙ ap (λ (x : RingPart). x.core.held) is)) r.own.taken;
-      ended_is = λ e. l.ended_is (ap (λ (x : RingPart). x.ended) is ∙ or_left (only p.me.0).ended (ended p.me.0.opening.formula (h.journal ++ unit_entry p.me.0 h.journal kind lit ∷ [])) (r.own.ended_is e));
+      ended_is = λ e. l.ended_is (ap (λ (x : RingPart). x.ended) is ∙ or_left (only p.me.0).ended (ended p.me.0.opening.formula (h.journal ++ unit_entry p.me.0 h.journal kind lit hints ∷ [])) (r.own.ended_is e));
       refused_is = r.own.refused_is ∙ ap (option_map answer_noted) (sym (l.refused ∙ ap (λ (x : RingPart). x.refused) is ∙ ap (λ (x : Option Refusal). newer x (only p.me.0).refused) h.quiet));
       faulty_is = λ e. l.failed_is (ap (λ (x : RingPart). x.failed) is ∙ h.gave.still (r.own.faulty_is e));
       making = ap (λ (c : Part). c.making) core ∙ ap (λ (x : RingPart). x.core.making) is ∙ r.own.making;
-      listed = listed_unit (only p.me.0) l.part (record { place = length h.journal; entry = unit_entry p.me.0 h.journal kind lit }) lit (ap (λ (c : Part). c.wrote) core ∙ ap (λ (x : RingPart). x.core.wrote) is) refl (unit_sees h l) (unit_seen h l) r.own.listed;
+      listed = listed_unit (only p.me.0) l.part (record { place = length h.journal; entry = unit_entry p.me.0 h.journal kind lit hints }) lit (ap (λ (c : Part). c.wrote) core ∙ ap (λ (x : RingPart). x.core.wrote) is) refl (unit_sees h l) (unit_seen h l) r.own.listed;
     })
     (λ lone e. absurd (true≢false (sym (l.alone (ap (λ (x : CoreOpening). x.rings) h.gave.opening ∙ lone) e) ∙ ap (λ (x : RingPart). x.failed) is ∙ h.whole)))
+    refl
+    (λ m.
+    let vars = ap (λ (y : Layout). y.vars) h.gave.layout in
+    numbers_keep refl refl (sym vars) (numbers_then w q.me.0 l.part o.numbers table l.parts l.layout keeps (numbers_keep (ap (λ (x : RingPart). x.core.seen) is) (ap (λ (x : RingPart). x.core.numbers) is) vars m)))
 
-pub room_unit : {v w u : View} {kind : Kind} {lit : Literal} {arrived arrived' : List Literal} (last : Option Cref) (ws : List Waiting) (room : ℕ) → Wrote v w (UnitNote kind lit) → Listed w u arrived arrived' lit → HasRoom (only v) v.opening.rings last ws room → HasRoom (only u) u.opening.rings last ws room
-room_unit {v} {w} {u} {kind} {lit} {arrived} {arrived'} last ws room h l m =
+pub room_unit : {v w u : View} {kind : Kind} {lit : Literal} {hints : List ℕ} {arrived arrived' : List Literal} (last : Option Cref) (ws : List Waiting) (room : ℕ) → Wrote v w (UnitNote kind lit hints) → Listed w u arrived arrived' lit → HasRoom (only v) v.opening.rings last ws room → HasRoom (only u) u.opening.rings last ws room
+room_unit {v} {w} {u} {kind} {lit} {hints} {arrived} {arrived'} last ws room h l m =
     let wrote = ap (λ (c : Part). length c.wrote) l.core in
     room_turns w u l.part last ws room l.opening l.parts (ap (λ (c : Part). c.waiting) l.core) (ap (λ (c : Part). c.shared) l.core) (omega arith) (line_room last ws room h m)
 
@@ -359,6 +381,6 @@ left_one (suc n) (suc i) (y ∷ ys) x le lt e d =
     }
 
 -- the next offer takes no memory still
-pub offer_unit : {v w u : View} {kind : Kind} {lit : Literal} {arrived arrived' : List Literal} (last : Option Cref) (s : Spares) → Wrote v w (UnitNote kind lit) → Listed w u arrived arrived' lit → CanOffer (only v) v.opening last s → CanOffer (only u) u.opening last s
-offer_unit {v} {w} {u} {kind} {lit} {arrived} {arrived'} last s h l r =
+pub offer_unit : {v w u : View} {kind : Kind} {lit : Literal} {hints : List ℕ} {arrived arrived' : List Literal} (last : Option Cref) (s : Spares) → Wrote v w (UnitNote kind lit hints) → Listed w u arrived arrived' lit → CanOffer (only v) v.opening last s → CanOffer (only u) u.opening last s
+offer_unit {v} {w} {u} {kind} {lit} {hints} {arrived} {arrived'} last s h l r =
     offer_turns v u l.part last s (l.opening ∙ h.gave.opening) l.parts (ap (λ (c : Part). c.held) l.core ∙ ap (λ (x : RingPart). x.core.held) (line_is h)) (l.gave ∙ ap (λ (x : RingPart). x.gave) (line_is h)) (ap (λ (c : Part). c.ring) l.core ∙ ap (λ (x : RingPart). x.core.ring) (line_is h)) (ap (λ (c : Part). c.puts) l.core ∙ ap (λ (x : RingPart). x.core.puts) (line_is h)) r

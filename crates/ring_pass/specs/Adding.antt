@@ -16,12 +16,12 @@ abbrev pub clause_with : (address number : ℕ) → List Literal → ClauseAt
 clause_with address number lits = record { address = address; number = number; lits = lits }
 
 -- the ring's entry that adds it, at its place in the journal
-abbrev pub placed_line : (place ring number : ℕ) → List Literal → Kind → Placed
-placed_line place ring number lits kind = record { place = place; entry = Add (record { ring = ring; number = number; lits = lits; kind = kind; hints = [] }) }
+abbrev pub placed_line : (place ring number : ℕ) → List Literal → Kind → List ℕ → Placed
+placed_line place ring number lits kind hints = record { place = place; entry = Add (record { ring = ring; number = number; lits = lits; kind = kind; hints = hints }) }
 
 -- the ring holds a clause that it added, at an address at which nothing stood that it knows, under a number of its own; it builds
 -- no other cell than before; if it was learned the ticket is used up; no write has failed
-pub record Added (v w : View) (kind : Kind) (lits : List Literal) (glue a : ℕ) : Type 0 where
+pub record Added (v w : View) (kind : Kind) (lits : List Literal) (hints : List ℕ) (glue a : ℕ) : Type 0 where
   pub number : ℕ
   pub place : ℕ
   pub part : RingPart
@@ -33,7 +33,7 @@ pub record Added (v w : View) (kind : Kind) (lits : List Literal) (glue a : ℕ)
   pub core : part.core ≡ record (only v).core {
     held = (only v).core.held ++ clause_with a number lits ∷ [];
     making = part.core.making;
-    wrote = (only v).core.wrote ++ placed_line place (only v).core.ring number lits kind ∷ [];
+    wrote = (only v).core.wrote ++ placed_line place (only v).core.ring number lits kind hints ∷ [];
     ticket = ticket_after kind (only v).core.ticket;
   }
   pub glues : part.glues ≡ record { number = number; glue = glue } ∷ (only v).glues

@@ -3,6 +3,7 @@ pub mod Cells
 pub mod Deletions
 pub mod Giving
 pub mod Looks
+pub mod Numbers
 pub mod Offering
 pub mod Refusals
 pub mod RingState

@@ -1,5 +1,6 @@
 -- A ring with its pass, as a port.
 use Rattle.std.specs.Prelude.{◌≡◌, ◌≢◌, Bool, ℕ, ◌+◌, ◌-◌, ◌*◌, ◌%◌, ◌<◌, ◌≤◌, slice_index, true, false, not, ⊤, List, [], ◌∷◌, map, length, take, drop, filter, min, ◌^◌, All, Option, Some, None, IfSome, vec_capacity}
+use Rattle.std.specs.List.{zip}
 use Rattle.std.specs.Option.{option_map}
 use Rattle.std.specs.Global.{Vec}
 use Rattle.sat_words.specs.Literal.{Literal}
@@ -26,6 +27,7 @@ use Rattle.ring_port.specs.Exchange.{puts_for}
 use Rattle.ring_port.specs.Port.{is_usable}
 use Rattle.ring_port.specs.PortState.{Holding, Offer, Slot, PortState}
 use Rattle.ring_pass.specs.declared.spares.Spares.{Spares}
+use Rattle.ring_pass.specs.Numbers.{HasNumbers}
 use Rattle.ring_pass.specs.Refusals.{last_refusal}
 use Rattle.ring_pass.specs.Sights.{wrote_unit}
 use Rattle.ring_pass.specs.declared.waiting.Waiting.{Waiting}
@@ -48,6 +50,10 @@ pub record Own : Type 0 where
   pub taken : List Cref
   -- whether it wrote the empty clause, or was refused since it stands
   pub ended : Bool
+  -- whether the log has hints
+  pub hinted : Bool
+  -- in a log with hints, the numbers of the units that it has seen, by the codes of their literals
+  pub numbers : List ℕ
   -- the name of the table
   pub home : List ℕ
 
@@ -87,6 +93,7 @@ port_with v p o = record {
   held = map (holding_of p.glues) p.core.held;
   waiting = map (holding_of p.glues) p.core.waiting;
   seen = without_kept (kept o) p.core.seen;
+  told = zip p.core.seen p.core.numbers;
   given = take o.passed o.arrived;
   coming = 2 * v.layout.vars - o.passed;
   kept = length o.arrived - o.passed;
@@ -112,6 +119,7 @@ port_with v p o = record {
   looks = min v.looks (2 ^ 64 - 1);
   refused = o.refused;
   ended = o.ended;
+  hinted = v.opening.hinted;
   output = None;
   home = o.home;
 }
@@ -199,8 +207,8 @@ pub record CanOffer (p : RingPart) (o : CoreOpening) (last : Option Cref) (s : S
   pub next : IfSome last (λ c. (0 < times_at c.address p.core.held) × (length (clause_in c.address p.core.held).lits ≤ s.longest))
   pub places : AreNext p.core.ring p.core.puts o s.places
 
--- the pass has this ring alone, which has not the turn; these are the addresses of the start clauses; a lone ring that
--- knows of a failed write was refused for a fault
+-- the pass has this ring alone, which has not the turn; these are the addresses of the start clauses; a lone ring that knows of a
+-- failed write was refused for a fault; in a log with hints the numbers of all units seen are kept
 pub record IsRingPass {B : Type 0} (t : Shared B) (p : Seat (Option B) View) (n : ℕ) (starts : List Cref) (o : Own) : Type 0 where
   pub pass : IsPassOf t p
   pub slots : p.me.1 ≡ []
@@ -208,6 +216,8 @@ pub record IsRingPass {B : Type 0} (t : Shared B) (p : Seat (Option B) View) (n 
   pub ring : n ≡ (only p.me.0).core.ring
   pub free : (only p.me.0).turn ≡ None
   pub home : o.home ≡ home_of p
+  pub hinted : o.hinted ≡ p.me.0.opening.hinted
+  pub numbers : o.hinted ≡ true → HasNumbers (only p.me.0).core.seen (only p.me.0).core.numbers p.me.0.layout.vars o.numbers
   pub start : starts ≡ addresses p.me.0.opening.starts
   pub own : IsOwn (only p.me.0) o
   pub alone_is : p.me.0.opening.rings ≡ 1 → (only p.me.0).failed ≡ true → is_usable o.refused ≡ false
@@ -220,6 +230,7 @@ begun_as v r home = record {
   held = map (holding_of (start_glues v.opening.starts)) v.opening.starts;
   waiting = [];
   seen = [];
+  told = [];
   given = [];
   coming = 2 * v.layout.vars;
   kept = 0;
@@ -245,6 +256,7 @@ begun_as v r home = record {
   looks = min v.looks (2 ^ 64 - 1);
   refused = None;
   ended = false;
+  hinted = v.opening.hinted;
   output = None;
   home = home;
 }

@@ -1,21 +1,29 @@
 -- What looking for the next listed unit does.
-use Rattle.std.specs.Prelude.{◌≡◌, ◌+◌, ◌≤◌, ℕ, Bool, true, false, not, ◌&&◌, ◌||◌, List, [], ◌∷◌, ◌++◌, length, take, drop, All, None, is_some}
+use Rattle.std.specs.Prelude.{◌≡◌, ◌+◌, ◌≤◌, ℕ, Bool, true, false, not, ◌&&◌, ◌||◌, List, [], ◌∷◌, ◌++◌, length, take, drop, All, Contains, Some, None, is_some}
 use Rattle.std.specs.List.{list_any}
 use Rattle.sat_words.specs.Literal.{Literal, same}
 use Rattle.sat_words.specs.Clause.{has, distinct_lits, same_set}
-use Rattle.rup_model.specs.Journal.{added, is_told}
+use Rattle.rup_model.specs.declared.journal.Kind.{Kind}
+use Rattle.rup_model.specs.declared.journal.Entry.TheVariants.{Add}
+use Rattle.rup_model.specs.Journal.{book, added}
 use Rattle.share_rule.specs.declared.view.RingPart.{RingPart}
 use Rattle.share_rule.specs.declared.view.View.{View}
+use Rattle.share_rule.specs.Steps.{after_load}
 use Rattle.share_rule.specs.Units.{after_count, after_see}
-use Rattle.share_rule.specs.Layout.{InVars}
+use Rattle.share_rule.specs.Layout.{number_at, InVars}
 use Rattle.share_rule.specs.Turns.{IsWriting, journal_in}
 use Rattle.share_rule.specs.Views.{only}
 use Rattle.ring_pass.specs.Writes.{entries_of}
 
+-- so many are listed; the next one is seen, and its number is read
+abbrev pub after_sight : Literal → ℕ → ℕ → View → View
+after_sight lit number listed v = after_load (number_at v.layout (length (only v).core.seen)) number (after_see lit number (after_count listed v))
+
 -- more are listed than were seen; one more is seen, and is kept after those that arrived
 pub record SawOne (v w : View) (seen seen' arrived arrived' : List Literal) (lit : Literal) : Type 0 where
   pub listed : ℕ
-  pub view : w ≡ after_see lit (after_count listed v)
+  pub number : ℕ
+  pub view : w ≡ after_sight lit number listed v
   pub caught_up : (only w).caught_up ≡ (only v).caught_up
   pub seen_is : seen' ≡ seen ++ lit ∷ []
   pub arrived_is : arrived' ≡ arrived ++ lit ∷ []
@@ -31,6 +39,7 @@ pub record SawAll (v w : View) (count : ℕ) (seen seen' arrived arrived' : List
 -- some more are seen, and kept after those that arrived
 pub record SawNews (v w : View) (seen' arrived arrived' : List Literal) : Type 0 where
   pub news : List Literal
+  pub numbers : List ℕ
   pub part : RingPart
   pub parts : w.parts ≡ part ∷ []
   pub layout : w.layout ≡ v.layout
@@ -38,7 +47,7 @@ pub record SawNews (v w : View) (seen' arrived arrived' : List Literal) : Type 0
   pub origin : w.origin ≡ v.origin
   pub stop : w.stop ≡ v.stop
   pub looks : w.looks ≡ v.looks
-  pub core : part.core ≡ record (only v).core { seen = (only v).core.seen ++ news }
+  pub core : part.core ≡ record (only v).core { seen = (only v).core.seen ++ news; numbers = (only v).core.numbers ++ numbers }
   pub glues : part.glues ≡ (only v).glues
   pub gave : part.gave ≡ (only v).gave
   pub polls : part.polls ≡ (only v).polls
@@ -71,7 +80,7 @@ pub record Listed (v w : View) (arrived arrived' : List Literal) (lit : Literal)
   pub opening : w.opening ≡ v.opening
   pub stop : w.stop ≡ v.stop
   pub looks : w.looks ≡ v.looks
-  pub core : part.core ≡ record (only v).core { seen = part.core.seen }
+  pub core : part.core ≡ record (only v).core { seen = part.core.seen; numbers = part.core.numbers }
   pub glues : part.glues ≡ (only v).glues
   pub gave : part.gave ≡ (only v).gave
   pub polls : part.polls ≡ (only v).polls
@@ -95,11 +104,15 @@ pub record LeftOut (passed : ℕ) (lit : Literal) (old new : List Literal) : Typ
   pub distinct : distinct_lits new ≡ true
   pub among : (k : Literal) → has new k ≡ true → has old k ≡ true
 
--- the ring has the turn and has seen all listed units; this one stood in the log before the turn
-pub record MayList (lit : Literal) (v : View) : Type 0 where
+-- one of its entries adds this unit under this number
+abbrev pub HasNumbered : RingPart → Literal → ℕ → Type 0
+HasNumbered p lit number = (kind : Kind) × (hints : List ℕ) × Contains (entries_of p) (Add (record { ring = p.core.ring; number = number; lits = lit ∷ []; kind = kind; hints = hints }))
+
+-- the ring has the turn and has seen all listed units; a clause that is this one had the number before the turn
+pub record MayList (lit : Literal) (number : ℕ) (v : View) : Type 0 where
   pub writing : IsWriting v
   pub whole : ((only v).whole ≡ true) × ((only v).listed ≡ length (only v).core.seen)
-  pub told : is_told v.opening.formula (journal_in (only v).turn) lit ≡ true
+  pub told : (book v.opening.formula (journal_in (only v).turn)).clause number ≡ Some (lit ∷ [])
   pub vars : InVars v.layout (lit ∷ [])
 
 -- it is listed
@@ -111,7 +124,7 @@ pub record ListedOne (v w : View) (seen' : List Literal) (lit : Literal) : Type 
   pub origin : w.origin ≡ v.origin
   pub stop : w.stop ≡ v.stop
   pub looks : w.looks ≡ v.looks
-  pub core : part.core ≡ record (only v).core { seen = part.core.seen }
+  pub core : part.core ≡ record (only v).core { seen = part.core.seen; numbers = part.core.numbers }
   pub glues : part.glues ≡ (only v).glues
   pub gave : part.gave ≡ (only v).gave
   pub polls : part.polls ≡ (only v).polls

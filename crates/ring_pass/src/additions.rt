@@ -29,19 +29,20 @@ pub(crate) fn add_clause<H: Wait, S: Sink>(
     ring: u32,
     kind: Kind,
     lits: &[Lit],
+    hints: &[u64],
     glue: u32,
 ) -> Result<Cref, TurnStop>
     requires pass { IsPassOf table.now pass.old × (pass.old.me.1 ≡ []) }
     requires ring { IsFree pass.old.me.0 × (ring ≡ (only pass.old.me.0).core.ring) }
     requires may { MayAddClause (own_opening pass.old.me.0) (entries_of (only pass.old.me.0)) (only pass.old.me.0).core (only pass.old.me.0).core.ring kind lits.now }
     requires long { IsLong lits.now }
-    requires follows { follows (only pass.old.me.0).core lits.now ≡ true }
+    requires follows { follows pass.old.me.0.opening.hinted (only pass.old.me.0).core lits.now hints.now ≡ true }
     requires on { InVars pass.old.me.0.layout lits.now }
     ensures pass { IsPassOf table.now pass.new × (pass.new.id ≡ pass.old.id) × (pass.new.me.1 ≡ []) }
-    ensures added { IfOk result (λ c. Added pass.old.me.0 pass.new.me.0 kind lits.now glue c.address) }
+    ensures added { IfOk result (λ c. Added pass.old.me.0 pass.new.me.0 kind lits.now hints.now glue c.address) }
     ensures refused { IfErr result (WroteNone pass.old.me.0 pass.new.me.0) }
 {
-    let line = write_clause(rt, alloc, table, pass, ring, kind, lits, glue)?;
+    let line = write_clause(rt, alloc, table, pass, ring, kind, lits, hints, glue)?;
     store_cell(table, pass, line.cell, line.number, glue, lits);
     open_cell(table, pass, line.cell);
     Ok(line.cell)

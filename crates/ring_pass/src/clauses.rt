@@ -35,20 +35,21 @@ pub(crate) fn write_clause<H: Wait, S: Sink>(
     ring: u32,
     kind: Kind,
     lits: &[Lit],
+    hints: &[u64],
     glue: u32,
 ) -> Result<Stored, TurnStop>
     requires pass { IsPassOf table.now pass.old × (pass.old.me.1 ≡ []) }
     requires ring { IsFree pass.old.me.0 × (ring ≡ (only pass.old.me.0).core.ring) }
     requires may { MayAddClause (own_opening pass.old.me.0) (entries_of (only pass.old.me.0)) (only pass.old.me.0).core (only pass.old.me.0).core.ring kind lits.now }
     requires long { IsLong lits.now }
-    requires follows { follows (only pass.old.me.0).core lits.now ≡ true }
+    requires follows { follows pass.old.me.0.opening.hinted (only pass.old.me.0).core lits.now hints.now ≡ true }
     requires on { InVars pass.old.me.0.layout lits.now }
     ensures pass { IsPassOf table.now pass.new × (pass.new.id ≡ pass.old.id) × (pass.new.me.1 ≡ []) }
-    ensures wrote { IfOk result (λ x. WroteClause pass.old.me.0 pass.new.me.0 kind lits.now glue x.cell.address x.number) }
+    ensures wrote { IfOk result (λ x. WroteClause pass.old.me.0 pass.new.me.0 kind lits.now hints.now glue x.cell.address x.number) }
     ensures refused { IfErr result (WroteNone pass.old.me.0 pass.new.me.0) }
 {
     let mut turn = take_turn(rt, alloc, table, pass, ring);
-    let added = turn.add(pass, alloc, kind, lits, glue);
+    let added = turn.add(pass, alloc, kind, lits, glue, hints);
     let number = turn.last();
     give_turn(table, pass, turn);
     match added {

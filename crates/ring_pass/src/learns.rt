@@ -4,7 +4,7 @@ ghost use Rattle.rup_model.specs.Rup.{rup};
 ghost use Rattle.rup_model.specs.declared.journal.Kind.TheVariants.{Learn};
 ghost use Rattle.ring_port.specs.PortState.{IsPort, IsOn, known};
 ghost use Rattle.ring_port.specs.Log.{KeepsLog};
-ghost use Rattle.ring_port.specs.Port.{is_usable, IsClause, IsFreshClause, ClausePut, UnitPut, Learned, KeepsHeld};
+ghost use Rattle.ring_port.specs.Port.{is_usable, IsClause, IsFreshClause, AreHints, EndsWith, ClausePut, UnitPut, Learned, KeepsHeld};
 ghost use Rattle.ring_pass.specs.RingState.{IsBuffer};
 
 use crate::additions::add_clause;
@@ -59,13 +59,15 @@ fn make_spares(
 impl<'a, S: Sink, G: Gate, H: Wait> RingPass<'a, S, G, H> {
     /// Learns a clause of two literals or more: its line is written, and it is held from then on and may be offered. Room for
     /// what its offer may bring back is taken first.
-    fn learn_clause(&mut self, lits: &[Lit], glue: u32) -> Result<Cref, PortStop>
+    fn learn_clause(&mut self, lits: &[Lit], glue: u32, hints: &[u64]) -> Result<Cref, PortStop>
         requires usable { is_usable self.old.refused ≡ true }
         requires long { 2 ≤ length lits.now }
         requires clause { IsClause self.old.vars lits.now }
         requires ticket { self.old.ticket ≡ true }
         requires rup { rup (known self.old) lits.now ≡ true }
         requires fresh { IsFreshClause self.old lits.now }
+        requires hints { AreHints self.old lits.now hints.now }
+        ensures hints { OnOk result (EndsWith self.new hints.now) }
         ensures learned { ClausePut self.old self.new lits.now glue Learn result }
         ensures kept { KeepsHeld self.old self.new }
         ensures log { KeepsLog self.old self.new }
@@ -86,6 +88,7 @@ impl<'a, S: Sink, G: Gate, H: Wait> RingPass<'a, S, G, H> {
             self.ring,
             Kind::Learn,
             lits,
+            hints,
             glue,
         );
         match added {
@@ -100,12 +103,14 @@ impl<'a, S: Sink, G: Gate, H: Wait> RingPass<'a, S, G, H> {
     }
 
     /// Learns a unit: its line is written in one turn, and in a second one it is listed unless another ring has done so.
-    fn learn_unit(&mut self, lit: Lit) -> Result<(), PortStop>
+    fn learn_unit(&mut self, lit: Lit, hints: &[u64]) -> Result<(), PortStop>
         requires usable { is_usable self.old.refused ≡ true }
         requires on { IsOn self.old.vars lit }
         requires ticket { self.old.ticket ≡ true }
         requires rup { rup (known self.old) (lit ∷ []) ≡ true }
         requires fresh { IsFreshClause self.old (lit ∷ []) }
+        requires hints { AreHints self.old (lit ∷ []) hints.now }
+        ensures hints { OnOk result (EndsWith self.new hints.now) }
         ensures learned { UnitPut self.old self.new lit Learn None result }
         ensures kept { KeepsHeld self.old self.new }
         ensures log { KeepsLog self.old self.new }
@@ -119,9 +124,10 @@ impl<'a, S: Sink, G: Gate, H: Wait> RingPass<'a, S, G, H> {
             self.ring,
             Kind::Learn,
             lit,
+            hints,
         );
         match written {
-            Ok(_) => {
+            Ok(number) => {
                 list_unit(
                     self.rt,
                     self.alloc,
@@ -129,8 +135,10 @@ impl<'a, S: Sink, G: Gate, H: Wait> RingPass<'a, S, G, H> {
                     &mut self.pass,
                     self.ring,
                     lit,
+                    number,
                     &mut self.seen,
                     &mut self.arrived,
+                    &mut self.numbers,
                 );
                 leave_out(&mut self.arrived, self.passed, lit);
                 self.last = None;
@@ -143,23 +151,31 @@ impl<'a, S: Sink, G: Gate, H: Wait> RingPass<'a, S, G, H> {
     }
 
     /// Learns a clause that was found at a conflict: its line is written, and it is held from then on with its literals in this
-    /// order. Of one literal it is a unit, which has no address and is seen. A refusal leaves the ticket in hand.
-    pub fn learn(&mut self, lits: &[Lit], glue: u32) -> Result<Option<Cref>, PortStop>
+    /// order. Of one literal it is a unit, which has no address and is seen. A refusal leaves the ticket in hand. Hints show that it
+    /// follows, if the log has any; else none are given.
+    pub fn learn(
+        &mut self,
+        lits: &[Lit],
+        glue: u32,
+        hints: &[u64],
+    ) -> Result<Option<Cref>, PortStop>
         requires usable { is_usable self.old.refused ≡ true }
         requires some { 1 ≤ length lits.now }
         requires clause { IsClause self.old.vars lits.now }
         requires ticket { self.old.ticket ≡ true }
         requires rup { rup (known self.old) lits.now ≡ true }
         requires fresh { IsFreshClause self.old lits.now }
+        requires hints { AreHints self.old lits.now hints.now }
+        ensures hints { OnOk result (EndsWith self.new hints.now) }
         ensures learned { Learned self.old self.new lits.now glue result }
         ensures kept { KeepsHeld self.old self.new }
         ensures log { KeepsLog self.old self.new }
         ensures port { IsPort self.new }
     {
         if lits.len() == 1 {
-            self.learn_unit(lits[0])?;
+            self.learn_unit(lits[0], hints)?;
             return Ok(None);
         }
-        Ok(Some(self.learn_clause(lits, glue)?))
+        Ok(Some(self.learn_clause(lits, glue, hints)?))
     }
 }

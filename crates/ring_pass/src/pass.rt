@@ -12,6 +12,7 @@ ghost use Rattle.share_rule.specs.Views.{only};
 ghost use Rattle.ring_pass.specs.Refusals.{last_refusal};
 ghost use Rattle.ring_pass.specs.RingState.{Own, HasListed, port_of, home_of, begun_as};
 
+use crate::numbers::no_numbers;
 use crate::spares::Spares;
 use crate::waiting::Waiting;
 use io_edge::Sink;
@@ -43,6 +44,8 @@ pub struct RingPass<'a, S: Sink, G: Gate, H> {
     pub(crate) refused: Option<PortStop>,
     pub(crate) taken: Vec<Cref>,
     pub(crate) ended: bool,
+    pub(crate) hinted: bool,
+    pub(crate) numbers: Vec<u64>,
 }
 
 impl<'a, S: Sink, G: Gate, H> Model for RingPass<'a, S, G, H> {
@@ -61,6 +64,8 @@ impl<'a, S: Sink, G: Gate, H> Model for RingPass<'a, S, G, H> {
       refused = p.refused;
       taken = p.taken.items;
       ended = p.ended;
+      hinted = p.hinted;
+      numbers = p.numbers.items;
       home = home_of p.pass;
     }) };
 
@@ -72,6 +77,8 @@ impl<'a, S: Sink, G: Gate, H> Model for RingPass<'a, S, G, H> {
       refused = p.refused;
       taken = p.taken.items;
       ended = p.ended;
+      hinted = p.hinted;
+      numbers = p.numbers.items;
       home = home_of p.pass;
     }) × HasRoom (only p.pass.me.0) p.pass.me.0.opening.rings p.last p.waiting.items (vec_capacity p.waiting)
         × HasUnits (only p.pass.me.0) p.pass.me.0.layout.vars p.seen.items (vec_capacity p.seen) (vec_capacity p.arrived)
@@ -80,8 +87,8 @@ impl<'a, S: Sink, G: Gate, H> Model for RingPass<'a, S, G, H> {
 
 impl<'a, S: Sink, G: Gate, H> RingPass<'a, S, G, H> {
     /// The port of the ring that has this pass, whose grant it has taken and nothing else done. `start` has the addresses of
-    /// the start clauses, in their order. Room is taken for all units that may ever be listed; refused for memory it gives
-    /// the pass back.
+    /// the start clauses, in their order. Room is taken for all units that may ever be listed, and in a log with hints for their
+    /// numbers; refused for memory it gives the pass back.
     pub fn new(
         alloc: Global,
         table: &'a Shared<Book<S>>,
@@ -89,9 +96,11 @@ impl<'a, S: Sink, G: Gate, H> RingPass<'a, S, G, H> {
         rt: &'a H,
         pass: Pass<Book<S>>,
         ring: u32,
+        hinted: bool,
         start: &'a [Cref],
     ) -> Result<RingPass<'a, S, G, H>, AllocFailed<Pass<Book<S>>>>
         requires pass { IsPassOf table.now pass × (pass.me.1 ≡ []) }
+        requires hinted { hinted ≡ pass.me.0.opening.hinted }
         requires granted { pass.me.0.parts ≡ new_part pass.me.0.opening ring ∷ [] }
         requires start { start.now ≡ addresses pass.me.0.opening.starts }
         ensures made { IfOk result (λ port. port ≡ begun_as pass.me.0 ring (home_of pass)) }
@@ -104,6 +113,9 @@ impl<'a, S: Sink, G: Gate, H> RingPass<'a, S, G, H> {
             return Err(AllocFailed { value: pass });
         };
         let Ok(arrived) = Vec::with_capacity(alloc, room) else {
+            return Err(AllocFailed { value: pass });
+        };
+        let Ok(numbers) = no_numbers(alloc, hinted, table.layout.vars) else {
             return Err(AllocFailed { value: pass });
         };
         Ok(RingPass {
@@ -129,6 +141,8 @@ impl<'a, S: Sink, G: Gate, H> RingPass<'a, S, G, H> {
             refused: None,
             taken: Vec::new(alloc),
             ended: false,
+            hinted,
+            numbers,
         })
     }
 

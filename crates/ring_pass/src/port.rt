@@ -16,6 +16,14 @@ impl<'a, S: Sink, G: Gate, H: Wait> Port for RingPass<'a, S, G, H> {
         self.depth()
     }
 
+    fn has_hints(&self) -> bool {
+        self.has_hints()
+    }
+
+    fn unit_number(&self, lit: Lit) -> Option<u64> {
+        self.unit_number(lit)
+    }
+
     fn head(&mut self, c: Cref) -> Head {
         self.head(c)
     }
@@ -36,20 +44,20 @@ impl<'a, S: Sink, G: Gate, H: Wait> Port for RingPass<'a, S, G, H> {
         self.draw()
     }
 
-    fn learn(&mut self, lits: &[Lit], glue: u32) -> Result<Option<Cref>, PortStop> {
-        self.learn(lits, glue)
+    fn learn(&mut self, lits: &[Lit], glue: u32, hints: &[u64]) -> Result<Option<Cref>, PortStop> {
+        self.learn(lits, glue, hints)
     }
 
-    fn derive(&mut self, lits: &[Lit], glue: u32) -> Result<Cref, PortStop> {
-        self.derive(lits, glue)
+    fn derive(&mut self, lits: &[Lit], glue: u32, hints: &[u64]) -> Result<Cref, PortStop> {
+        self.derive(lits, glue, hints)
     }
 
-    fn unit(&mut self, lit: Lit) -> Result<(), PortStop> {
-        self.unit(lit)
+    fn unit(&mut self, lit: Lit, hints: &[u64]) -> Result<(), PortStop> {
+        self.unit(lit, hints)
     }
 
-    fn empty(&mut self) -> Result<(), PortStop> {
-        self.empty()
+    fn empty(&mut self, hints: &[u64]) -> Result<(), PortStop> {
+        self.empty(hints)
     }
 
     fn drop_clause(&mut self, c: Cref) -> Result<(), PortStop> {

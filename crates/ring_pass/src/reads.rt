@@ -25,6 +25,14 @@ impl<'a, S: Sink, G: Gate, H> RingPass<'a, S, G, H> {
         self.table.layout.depth
     }
 
+    /// Whether additions to the log have hints, which no call changes.
+    pub fn has_hints(&self) -> bool
+        ensures value { result ≡ self.now.hinted }
+        ensures port { IsPort self.now }
+    {
+        self.hinted
+    }
+
     /// The size, the glue and the number of a clause that is held.
     pub fn head(&mut self, c: Cref) -> Head
         requires { IsSome (held_at self.old c.address) }

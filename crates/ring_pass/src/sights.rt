@@ -5,9 +5,11 @@ ghost use Rattle.share_rule.specs.Passes.{IsPassOf, IsSamePass};
 ghost use Rattle.share_rule.specs.Layout.{InVars};
 ghost use Rattle.share_rule.specs.Turns.{IsFree};
 ghost use Rattle.share_rule.specs.Views.{only};
+ghost use Rattle.ring_pass.specs.Numbers.{KeepsNumbers};
 ghost use Rattle.ring_pass.specs.RingState.{HasUnits};
-ghost use Rattle.ring_pass.specs.Sights.{SawOne, SawAll, SawRest, MayList, ListedOne, Listed, LeftOut, wrote_unit};
+ghost use Rattle.ring_pass.specs.Sights.{SawOne, SawAll, SawRest, MayList, ListedOne, Listed, LeftOut, HasNumbered};
 
+use crate::numbers::note_number;
 use io_edge::Sink;
 use log_book::{Book, give_turn, take_turn};
 use sat_words::Lit;
@@ -21,17 +23,21 @@ pub(crate) fn see_next<B: Ledger>(
     pass: &mut Pass<B>,
     seen: &mut Vec<Lit>,
     arrived: &mut Vec<Lit>,
+    numbers: &mut Vec<u64>,
 ) -> Option<Lit>
     requires pass { IsPassOf table.now pass.old × (pass.old.me.0.parts ≡ only pass.old.me.0 ∷ []) }
     requires units { HasUnits (only pass.old.me.0) pass.old.me.0.layout.vars seen.old.items (vec_capacity seen.old) (vec_capacity arrived.old) }
     requires arrived { (distinct_lits arrived.old.items ≡ true) × All (λ l. has (only pass.old.me.0).core.seen l ≡ true) arrived.old.items }
     ensures pass { IsPassOf table.now pass.new × IsSamePass pass.old pass.new }
+    ensures numbers { KeepsNumbers pass.old.me.0 pass.new.me.0 numbers.old.items numbers.new.items }
     ensures saw { MatchOption result (SawAll pass.old.me.0 pass.new.me.0 (length seen.old.items) seen.old.items seen.new.items arrived.old.items arrived.new.items) (SawOne pass.old.me.0 pass.new.me.0 seen.old.items seen.new.items arrived.old.items arrived.new.items) }
     ensures room { (vec_capacity seen.new ≡ vec_capacity seen.old) × (vec_capacity arrived.new ≡ vec_capacity arrived.old) }
 {
-    let lit = unit_share::next_unit(table, pass, seen.len() as u64)?;
+    let unit = unit_share::next_unit(table, pass, seen.len() as u64)?;
+    let lit = unit.0;
     seen.push_reserved(lit);
     arrived.push_reserved(lit);
+    note_number(numbers, lit, unit.1);
     Some(lit)
 }
 
@@ -41,15 +47,17 @@ fn see_all<B: Ledger>(
     pass: &mut Pass<B>,
     seen: &mut Vec<Lit>,
     arrived: &mut Vec<Lit>,
+    numbers: &mut Vec<u64>,
 )
     requires pass { IsPassOf table.now pass.old × (pass.old.me.0.parts ≡ only pass.old.me.0 ∷ []) }
     requires units { HasUnits (only pass.old.me.0) pass.old.me.0.layout.vars seen.old.items (vec_capacity seen.old) (vec_capacity arrived.old) }
     requires arrived { (distinct_lits arrived.old.items ≡ true) × All (λ l. has (only pass.old.me.0).core.seen l ≡ true) arrived.old.items }
     ensures pass { IsPassOf table.now pass.new × IsSamePass pass.old pass.new }
+    ensures numbers { KeepsNumbers pass.old.me.0 pass.new.me.0 numbers.old.items numbers.new.items }
     ensures saw { SawRest pass.old.me.0 pass.new.me.0 seen.new.items arrived.old.items arrived.new.items }
     ensures units { HasUnits (only pass.new.me.0) pass.new.me.0.layout.vars seen.new.items (vec_capacity seen.new) (vec_capacity arrived.new) }
 {
-    while let Some(_) = see_next(table, pass, seen, arrived) {}
+    while let Some(_) = see_next(table, pass, seen, arrived, numbers) {}
 }
 
 /// Whether the literal is among these.
@@ -60,22 +68,32 @@ fn contains(lits: &[Lit], lit: Lit) -> bool
 }
 
 /// Lists a unit, unless it is listed.
-fn list_new<B: Ledger>(table: &Shared<B>, pass: &mut Pass<B>, lit: Lit, seen: &mut Vec<Lit>)
+fn list_new<B: Ledger>(
+    table: &Shared<B>,
+    pass: &mut Pass<B>,
+    lit: Lit,
+    number: u64,
+    seen: &mut Vec<Lit>,
+    numbers: &mut Vec<u64>,
+)
     requires pass { IsPassOf table.now pass.old }
-    requires unit { MayList lit pass.old.me.0 }
+    requires unit { MayList lit number pass.old.me.0 }
     requires seen { (seen.old.items ≡ (only pass.old.me.0).core.seen) × (2 * pass.old.me.0.layout.vars ≤ vec_capacity seen.old) }
     ensures pass { IsPassOf table.now pass.new × IsSamePass pass.old pass.new }
+    ensures numbers { KeepsNumbers pass.old.me.0 pass.new.me.0 numbers.old.items numbers.new.items }
     ensures listed { ListedOne pass.old.me.0 pass.new.me.0 seen.new.items lit }
     ensures room { vec_capacity seen.new ≡ vec_capacity seen.old }
 {
     if contains(seen.as_slice(), lit) {
         return;
     }
-    unit_share::publish(table, pass, lit, seen.len() as u64);
+    unit_share::publish(table, pass, lit, number, seen.len() as u64);
     seen.push_reserved(lit);
+    note_number(numbers, lit, number);
 }
 
-/// Waits for the turn and sees all listed units in it; then lists this one, which the ring wrote, unless it is listed.
+/// Waits for the turn and sees all listed units in it; then lists this one, which the ring wrote under this number, unless it is
+/// listed.
 pub(crate) fn list_unit<H: Wait, S: Sink>(
     rt: &H,
     alloc: Global,
@@ -83,22 +101,25 @@ pub(crate) fn list_unit<H: Wait, S: Sink>(
     pass: &mut Pass<Book<S>>,
     ring: u32,
     lit: Lit,
+    number: u64,
     seen: &mut Vec<Lit>,
     arrived: &mut Vec<Lit>,
+    numbers: &mut Vec<u64>,
 )
     requires pass { IsPassOf table.now pass.old × (pass.old.me.1 ≡ []) }
     requires ring { IsFree pass.old.me.0 × (ring ≡ (only pass.old.me.0).core.ring) }
     requires units { HasUnits (only pass.old.me.0) pass.old.me.0.layout.vars seen.old.items (vec_capacity seen.old) (vec_capacity arrived.old) }
     requires arrived { (distinct_lits arrived.old.items ≡ true) × All (λ l. has (only pass.old.me.0).core.seen l ≡ true) arrived.old.items }
-    requires written { wrote_unit (only pass.old.me.0) lit ≡ true }
+    requires written { HasNumbered (only pass.old.me.0) lit number }
     requires on { InVars pass.old.me.0.layout (lit ∷ []) }
     ensures pass { IsPassOf table.now pass.new × (pass.new.id ≡ pass.old.id) × (pass.new.me.1 ≡ []) }
+    ensures numbers { KeepsNumbers pass.old.me.0 pass.new.me.0 numbers.old.items numbers.new.items }
     ensures listed { Listed pass.old.me.0 pass.new.me.0 arrived.old.items arrived.new.items lit }
     ensures units { HasUnits (only pass.new.me.0) pass.new.me.0.layout.vars seen.new.items (vec_capacity seen.new) (vec_capacity arrived.new) }
 {
     let turn = take_turn(rt, alloc, table, pass, ring);
-    see_all(table, pass, seen, arrived);
-    list_new(table, pass, lit, seen);
+    see_all(table, pass, seen, arrived, numbers);
+    list_new(table, pass, lit, number, seen, numbers);
     give_turn(table, pass, turn);
 }
 

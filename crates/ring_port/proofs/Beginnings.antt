@@ -1,5 +1,5 @@
 -- How a port in memory begins.
-use Rattle.std.proofs.Common.{◌≡◌, ◌≢◌, inl, inr, ℕ, zero, suc, ◌+◌, ◌-◌, ◌^◌, ◌<◌, ◌≤◌, ◌||◌, false, not, List, [], ◌∷◌, ◌++◌, length, map, get_or, sym, refl, ap, subst, ◌∙◌, arith, Some, None, append_assoc, append-nil, cond, ◌==◌, eq-eqb, ne_eqb}
+use Rattle.std.proofs.Common.{◌≡◌, ◌≢◌, inl, inr, ℕ, zero, suc, ◌+◌, ◌-◌, ◌^◌, ◌<◌, ◌≤◌, ◌||◌, Bool, true, false, not, List, [], ◌∷◌, ◌++◌, length, map, get_or, sym, refl, ap, subst, ◌∙◌, arith, Some, None, append_assoc, append-nil, cond, ◌==◌, eq-eqb, ne_eqb}
 use Rattle.std.specs.List.{list_any, All, AllByRecursion, IsDistinct, find, range_with_len}
 use Rattle.std.specs.Prelude.{nat_eq}
 use Rattle.std.proofs.lemmas.Bool.{or_parts, false≢true, eqb-false}
@@ -20,7 +20,12 @@ use Rattle.rup_model.proofs.Lists.{In, Contains_In}
 use Rattle.std.proofs.lemmas.Map.Keys.{IsDistinct-head, IsDistinct-tail}
 use Rattle.ring_port.specs.Log.{Origin, Keeps, StandsOver, start_of}
 use Rattle.ring_port.specs.OwnLog.{LogData}
-use Rattle.ring_port.specs.PlainPort.{PlainData, state_of, IsPlain, OpensOver, starts_of, pairs_of, placed_from, words_of, AreAllHeld, begun_with}
+use Rattle.ring_port.specs.PlainPort.{PlainData, state_of, IsPlain, OpensOver, HasNumbers, ArePaired, starts_of, pairs_of, placed_from, unit_lits, told_in, words_of, AreAllHeld, begun_with}
+use Rattle.ring_port.proofs.Naming.{numbers_begun}
+use Rattle.rup_model.specs.Log.{alive}
+use Rattle.rup_model.proofs.Numbers.{clause_below, journal_matches}
+use Rattle.sat_words.specs.Formats.{has_hints}
+use Rattle.sat_words.specs.declared.line.ProofFormat.{ProofFormat}
 use Rattle.ring_port.specs.Store.{StoreData}
 
 -- Lists of start clauses
@@ -85,16 +90,34 @@ empty_last_from before (e ∷ rest) none = (
 )
 
 -- what a port has when it is made
-abbrev pub begun_data : ℕ → List (ℕ × List Literal) → List Literal → ℕ → LogData → ℕ → PlainData
-begun_data vars ss units room g limit = record { vars = vars; start = placed_from 0 ss; held = placed_from 0 ss; waiting = []; opening = units; passed = 0; given = []; given_room = room; written = []; log = g; last = None; tickets = record { in_hand = false; found = 0; limit = limit }; stop = None; looks = 0; caught_up = 0 }
+abbrev pub begun_data : ℕ → List (ℕ × List Literal) → List (Literal × ℕ) → ProofFormat → ℕ → LogData → ℕ → PlainData
+begun_data vars ss units format room g limit = record { vars = vars; start = placed_from 0 ss; held = placed_from 0 ss; waiting = []; opening = unit_lits units; passed = 0; given = []; given_room = room; written = []; hinted = has_hints format; told = told_in (has_hints format) units; log = g; last = None; tickets = record { in_hand = false; found = 0; limit = limit }; stop = None; looks = 0; caught_up = 0 }
 
-module _ (F : List (List Literal)) (vars : ℕ) (ss : List (ℕ × List Literal)) (units : List Literal) (out : LineState) (limit : ℕ) where
+module _ (F : List (List Literal)) (vars : ℕ) (ss : List (ℕ × List Literal)) (units : List (Literal × ℕ)) (out : LineState) (limit : ℕ) where
   kept_start : (J : List Entry) → OpensOver F (starts_of ss) units out J → All (λ s. All (IsOn vars) s.1) ss → All (IsKept vars) (placed_from 0 ss)
   kept_start J h on = placed_All (IsStart (book F J)) (λ s. All (IsOn vars) s.1) (IsKept vars) 0 ss (λ b s is ons. record { shape = is.shape; on = ons }) h.opens.starts on
 
-  pub begun_plain : (room : ℕ) (g : LogData) (J : List Entry) → OpensOver F (starts_of ss) units out J → All (λ s. All (IsOn vars) s.1) ss → All (IsOn vars) units
-      → length units ≤ room → limit < 2 ^ 64 → IsPlain (begun_data vars ss units room g limit)
-  begun_plain room g J h on units_on enough fits = record {
+  -- a clause that the log has is under a number that was given
+  given_number : (J : List Entry) → OpensOver F (starts_of ss) units out J → (n : ℕ) (c : List Literal) → (book F J).clause n ≡ Some c → n ≤ out.last
+  given_number J h n c is =
+      let below = clause_below (book F J) (alive F (lines F J)) n c (journal_matches F J h.opens.rulers_part.fits) is in
+      let next = h.lines.last in
+      omega arith
+
+  alive_start : (J : List Entry) → OpensOver F (starts_of ss) units out J → All (λ c. (book F J).clause c.number ≡ Some c.lits) (placed_from 0 ss)
+  alive_start J h = placed_All (IsStart (book F J)) (λ t. t ≡ t) (λ c. (book F J).clause c.number ≡ Some c.lits) 0 ss (λ b t is same. is.alive) h.opens.starts (λ k d lt. refl)
+
+  -- in a log with hints the units are alive under their numbers
+  paired_told : (J : List Entry) → OpensOver F (starts_of ss) units out J → has_hints out.format ≡ true → ArePaired (book F J) (told_in (has_hints out.format) units)
+  paired_told J h q = subst (λ (b : Bool). ArePaired (book F J) (told_in b units)) (sym q) (h.paired q)
+
+  begun_numbers : (J : List Entry) → OpensOver F (starts_of ss) units out J → has_hints out.format ≡ true → HasNumbers out.last (placed_from 0 ss) (told_in (has_hints out.format) units) (unit_lits units) []
+  begun_numbers J h q = subst (λ (b : Bool). HasNumbers out.last (placed_from 0 ss) (told_in b units) (unit_lits units) []) (sym q)
+      (numbers_begun (book F J) out.last (placed_from 0 ss) units (given_number J h) (alive_start J h) (h.paired q))
+
+  pub begun_plain : (room : ℕ) (g : LogData) (J : List Entry) → g.output ≡ out → OpensOver F (starts_of ss) units out J → All (λ s. All (IsOn vars) s.1) ss → All (IsOn vars) (unit_lits units)
+      → length (unit_lits units) ≤ room → limit < 2 ^ 64 → IsPlain (begun_data vars ss units out.format room g limit)
+  begun_plain room g J output h on units_on enough fits = record {
     held = kept_start J h on;
     waiting = λ k d lt. absurd (omega arith);
     start = kept_start J h on;
@@ -109,20 +132,21 @@ module _ (F : List (List Literal)) (vars : ℕ) (ss : List (ℕ × List Literal)
     written = λ k d lt. absurd (omega arith);
     stop = tt;
     few = fits;
+    numbers = λ q. subst (λ (n : ℕ). HasNumbers n (placed_from 0 ss) (told_in (has_hints out.format) units) (unit_lits units) []) (sym (ap (λ (a : LineState). a.last) output)) (begun_numbers J h q);
   }
 
   pub begun_state : (room : ℕ) (g : LogData) → g.output ≡ out → g.mine ≡ [] → g.ended ≡ false → g.refused ≡ None
-      → state_of (begun_data vars ss units room g limit) ≡ begun_with vars ss units out limit
+      → state_of (begun_data vars ss units out.format room g limit) ≡ begun_with vars ss units out limit
   begun_state room g output mine going quiet =
-      let all : length units - 0 ≡ length units = omega arith in
+      let all : length (unit_lits units) - 0 ≡ length (unit_lits units) = omega arith in
       λ i. record (begun_with vars ss units out limit) { coming = all i; output = Some (output i); mine = mine i; ended = going i; refused = quiet i }
 
   -- the state of a port that has this
-  pub begun_is : (S H Q : List Holding) (V W : List Literal) (room : ℕ) (g : LogData) (tickets : Tickets) → S ≡ placed_from 0 ss → H ≡ placed_from 0 ss → Q ≡ [] → V ≡ [] → W ≡ [] → tickets ≡ record { in_hand = false; found = 0; limit = limit }
+  pub begun_is : (S H Q : List Holding) (O V W : List Literal) (b : Bool) (T : List (Literal × ℕ)) (room : ℕ) (g : LogData) (tickets : Tickets) → S ≡ placed_from 0 ss → H ≡ placed_from 0 ss → Q ≡ [] → O ≡ unit_lits units → V ≡ [] → W ≡ [] → b ≡ has_hints out.format → T ≡ told_in (has_hints out.format) units → tickets ≡ record { in_hand = false; found = 0; limit = limit }
       → g.output ≡ out → g.mine ≡ [] → g.ended ≡ false → g.refused ≡ None
-      → state_of (record { vars = vars; start = S; held = H; waiting = Q; opening = units; passed = 0; given = V; given_room = room; written = W; log = g; last = None; tickets = tickets; stop = None; looks = 0; caught_up = 0 }) ≡ begun_with vars ss units out limit
-  begun_is S H Q V W room g tickets start held none given written undrawn output mine going quiet =
-      (λ i. state_of (record { vars = vars; start = start i; held = held i; waiting = none i; opening = units; passed = 0; given = given i; given_room = room; written = written i; log = g; last = None; tickets = undrawn i; stop = None; looks = 0; caught_up = 0 }))
+      → state_of (record { vars = vars; start = S; held = H; waiting = Q; opening = O; passed = 0; given = V; given_room = room; written = W; hinted = b; told = T; log = g; last = None; tickets = tickets; stop = None; looks = 0; caught_up = 0 }) ≡ begun_with vars ss units out limit
+  begun_is S H Q O V W b T room g tickets start held none opening given written hinted told undrawn output mine going quiet =
+      (λ i. state_of (record { vars = vars; start = start i; held = held i; waiting = none i; opening = opening i; passed = 0; given = given i; given_room = room; written = written i; hinted = hinted i; told = told i; log = g; last = None; tickets = undrawn i; stop = None; looks = 0; caught_up = 0 }))
       ∙ begun_state room g output mine going quiet
 
   pub begun_stands : (J : List Entry) → OpensOver F (starts_of ss) units out J → list_any is_empty F ≡ false → out.spent ≡ false
@@ -133,17 +157,18 @@ module _ (F : List (List Literal)) (vars : ℕ) (ss : List (ℕ × List Literal)
       let alone : J ++ [] ≡ J = append-nil J in
       let log : LogSound F J = record { fits = h.opens.rulers_part.fits; accepted = h.opens.rulers_part.accepted; empty_last = empty_last_from [] J h.opens.rulers_part.going } in
       record {
-        opens = subst (λ ts. IsOpening F (record { journal = J; starts = ts; units = units })) (sym (starts_placed 0 ss)) h.opens;
+        opens = subst (λ ts. IsOpening F (record { journal = J; starts = ts; units = unit_lits units })) (sym (starts_placed 0 ss)) h.opens;
         given = none;
         sound = subst (LogSound F) (sym alone) log;
         of_ring = λ k d lt. absurd (omega arith);
         on = λ k d lt. absurd (omega arith);
         ended = sym (ap (λ K. list_any is_empty (F ++ added K)) alone ∙ list_any-append is_empty F (added J) ∙ ap (λ b. b || list_any is_empty (added J)) none ∙ h.opens.rulers_part.going);
-        held = subst (λ K. All (λ c. (book F K).clause c.number ≡ Some c.lits) (placed_from 0 ss)) (sym alone)
-            (placed_All (IsStart (book F J)) (λ t. t ≡ t) (λ c. (book F J).clause c.number ≡ Some c.lits) 0 ss (λ b t is same. is.alive) h.opens.starts (λ k d lt. refl));
+        held = subst (λ K. All (λ c. (book F K).clause c.number ≡ Some c.lits) (placed_from 0 ss)) (sym alone) (alive_start J h);
         waiting = λ k d lt. absurd (omega arith);
         numbers = λ x y kx ky same. numbers_from 0 ss h.opens.numbers x y (among x kx) (among y ky) same;
         seen = λ k d lt. absurd (omega arith);
+        told = λ q. subst (λ K. ArePaired (book F K) (told_in (has_hints out.format) units)) (sym alone) (paired_told J h q);
+        hints = λ q. tt;
         output = record {
           entries = h.lines.entries ∙ ap (λ K. length (lines F K)) (sym alone);
           last = ap (λ K. (book F K).next) alone ∙ h.lines.last;
@@ -169,7 +194,7 @@ found_apart (h ∷ hs) apart (suc k) d lt =
     ∙ found_apart hs apart.1 k d (omega arith)
 
 -- each start clause is held at its address
-pub begun_holds : (vars : ℕ) (ss : List (ℕ × List Literal)) (units : List Literal) (out : LineState) (limit : ℕ) → HoldsStart (begun_with vars ss units out limit)
+pub begun_holds : (vars : ℕ) (ss : List (ℕ × List Literal)) (units : List (Literal × ℕ)) (out : LineState) (limit : ℕ) → HoldsStart (begun_with vars ss units out limit)
 unfolding held_at
 begun_holds vars ss units out limit k d lt = found_apart (placed_from 0 ss) (apart_from 0 ss) k d lt
 

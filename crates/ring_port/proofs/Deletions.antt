@@ -20,8 +20,9 @@ use Rattle.rup_model.proofs.Units.{long_two}
 use Rattle.rup_model.proofs.Numbers.{book_last, lines_last}
 use Rattle.rup_model.proofs.JournalSteps.{not_added, log_dels}
 use Rattle.rup_model.proofs.Additions.{added-append}
+use Rattle.rup_model.proofs.Sequences.{each_last}
 use Rattle.drat_text.specs.LineState.{LineState}
-use Rattle.rup_model.specs.NumberedLines.{Deleted, numbered_after}
+use Rattle.rup_model.specs.NumberedLines.{Deleted, numbered_after, IsHinted}
 use Rattle.drat_text.specs.LineOut.{PutLine, with_line, deleted_line}
 use Rattle.drat_text.proofs.JournalLines.{has_text_next}
 use Rattle.ring_port.specs.PortState.{Holding, PortState, IsOn}
@@ -77,6 +78,16 @@ module _ (o : Origin) (s : PortState) (h : StandsOver o s) (ring : s.ring ≡ 0)
   others_alive : (c : Holding) → c.number ≢ w.number → (book F J).clause c.number ≡ Some c.lits → (book F shrunk).clause c.number ≡ Some c.lits
   others_alive c other is = ap (λ (b : Book). b.clause c.number) book_is ∙ put_else (book F J).clause w.number None c.number other ∙ is
 
+  -- no unit has its number
+  units_alive : s.hinted ≡ true → All (λ u. (book F shrunk).clause u.1 ≡ Some (u.0 ∷ [])) s.told
+  units_alive q k d lt =
+      let u : Literal × ℕ = get_or s.told k d in
+      let is : (book F J).clause u.1 ≡ Some (u.0 ∷ []) = h.told q k d lt in
+      ap (λ (b : Book). b.clause u.1) book_is ∙ put_else (book F J).clause w.number None u.1 (λ e. other u.0 (sym is ∙ ap (book F J).clause e ∙ alive)) ∙ is
+    where
+      other : (l : Literal) → Some (l ∷ []) ≡ Some w.lits → ⊥
+      other l e = let n : 1 ≡ length w.lits = ap (λ o. length (unwrap_or o [])) e in let two = long.long in absurd (omega arith)
+
   -- no other clause has its number
   module _ (apart : All (λ c. c ≢ w) s.held) (once : All (λ c. c ≢ w) rest) where
     w_waits : Keeps s w
@@ -122,6 +133,8 @@ module _ (o : Origin) (s : PortState) (h : StandsOver o s) (ring : s.ring ≡ 0)
         waiting = other_waiting;
         numbers = λ x y kx ky same. h.numbers x y (keeps x kx) (keeps y ky) same;
         seen = subst (λ (G : List (List Literal)). All (λ l. list_any (same_set (l ∷ [])) (F ++ G) ≡ true) s.seen) (sym added_same) h.seen;
+        told = units_alive;
+        hints = λ q. each_last (IsHinted F) o.journal s.mine deletes (h.hints q) tt;
         output = subst (λ v. HasLines o after_deletion v) (sym did.state) has_lines;
       }
         where
@@ -159,6 +172,8 @@ module _ (o : Origin) (s : PortState) (h : StandsOver o s) (H W : List Holding) 
     waiting = waiting;
     numbers = λ x y kx ky same. h.numbers x y (keeps x kx) (keeps y ky) same;
     seen = h.seen;
+    told = h.told;
+    hints = h.hints;
     output = some_still s.output h.output;
   }
     where

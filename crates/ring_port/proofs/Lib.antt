@@ -1,5 +1,7 @@
 pub mod Holdings
+pub mod Hinted
 pub mod LogSteps
+pub mod Naming
 pub mod Dropping
 pub mod Spares
 pub mod Stretches

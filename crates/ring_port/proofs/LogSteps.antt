@@ -25,8 +25,9 @@ use Rattle.rup_model.proofs.Numbers.{journal_matches, clause_below, book_last, l
 use Rattle.rup_model.proofs.JournalSteps.{not_added, log_adds}
 use Rattle.rup_model.proofs.Additions.{added-append, told_more}
 use Rattle.rup_model.proofs.Told.{told_alive}
+use Rattle.rup_model.proofs.Sequences.{each_last}
 use Rattle.drat_text.specs.LineState.{LineState}
-use Rattle.rup_model.specs.NumberedLines.{NumberedLine, Added, line_of}
+use Rattle.rup_model.specs.NumberedLines.{NumberedLine, Added, line_of, IsHinted}
 use Rattle.drat_text.specs.LineOut.{PutLine, FailedLine, with_line, added_line}
 use Rattle.drat_text.proofs.JournalLines.{has_text_next, has_text_cut}
 use Rattle.sat_words.specs.declared.shared.Stop.{Stop}
@@ -34,9 +35,10 @@ use Rattle.sat_words.specs.declared.shared.TheConstants.{MAX_ENTRIES}
 use Rattle.ring_port.specs.declared.stops.PortStop.{PortStop}
 use Rattle.ring_port.specs.declared.stops.PortStop.TheVariants.{Ended, Broken, ProofFault, NoHole, Memory}
 use Rattle.ring_port.specs.PortState.{Holding, PortState, IsOn, known}
-use Rattle.ring_port.specs.Port.{entry_of, is_usable}
+use Rattle.ring_port.specs.Port.{entry_of, is_usable, AreHints}
 use Rattle.ring_port.specs.Log.{Origin, Keeps, StandsOver, HasLines, IsCaused, journal_of}
 use Rattle.ring_port.proofs.Holdings.{All_In}
+use Rattle.ring_port.proofs.Hinted.{hints_alive}
 
 -- Lists
 
@@ -49,12 +51,12 @@ pub one_All : {X : Type 0} (P : X → Type 0) (x : X) → P x → All P (x ∷ [
 one_All P x p zero d lt = p
 one_All P x p (suc k) d lt = absurd (omega arith)
 
-or_none : (b : Bool) → (b || false) ≡ b
+pub or_none : (b : Bool) → (b || false) ≡ b
 or_none true = refl
 or_none false = refl
 
 -- one addition more
-module _ (o : Origin) (s : PortState) (h : StandsOver o s) (ring : s.ring ≡ 0) (lits : List Literal) (kind : Kind) (number : ℕ) where
+module _ (o : Origin) (s : PortState) (h : StandsOver o s) (ring : s.ring ≡ 0) (lits : List Literal) (kind : Kind) (number : ℕ) (hints : List ℕ) where
   abbrev F : List (List Literal)
   F = o.formula
 
@@ -62,7 +64,7 @@ module _ (o : Origin) (s : PortState) (h : StandsOver o s) (ring : s.ring ≡ 0)
   J = journal_of o s
 
   abbrev x : Addition
-  x = record { ring = s.ring; number = number; lits = lits; kind = kind; hints = [] }
+  x = record { ring = s.ring; number = number; lits = lits; kind = kind; hints = hints }
 
   abbrev grown : List Entry
   grown = o.journal ++ (s.mine ++ Add x ∷ [])
@@ -123,6 +125,9 @@ module _ (o : Origin) (s : PortState) (h : StandsOver o s) (ring : s.ring ≡ 0)
 
   pub held_next : All (λ c. (book F grown).clause c.number ≡ Some c.lits) s.held
   held_next k d lt = alive_next _ _ (h.held k d lt)
+
+  pub told_alive_next : (T : List (Literal × ℕ)) → All (λ u. (book F J).clause u.1 ≡ Some (u.0 ∷ [])) T → All (λ u. (book F grown).clause u.1 ≡ Some (u.0 ∷ [])) T
+  told_alive_next T all k d lt = alive_next _ _ (all k d lt)
 
   -- a clause that is held or waits has an earlier number
   kept_below : (c : Holding) → Keeps s c → c.number < (book F J).next
@@ -198,52 +203,55 @@ caused_same s t a (Some (NoHole lack)) same c = c
 caused_same s t a (Some Memory) same c = c
 
 -- A line that was put
-module _ (o : Origin) (s : PortState) (h : StandsOver o s) (ring : s.ring ≡ 0) (lits : List Literal) (kind : Kind) (number : ℕ)
-    (follows : rup (known s) lits ≡ true) (going : s.ended ≡ false) (on : All (IsOn s.vars) lits) (a b : LineState) (out : s.output ≡ Some a) (unspent : a.spent ≡ false) (given : number ≡ a.last + 1) (put : PutLine a b (added_line a lits [])) where
+module _ (o : Origin) (s : PortState) (h : StandsOver o s) (ring : s.ring ≡ 0) (lits : List Literal) (kind : Kind) (number : ℕ) (hints : List ℕ) (fit : AreHints s lits hints)
+    (follows : rup (known s) lits ≡ true) (going : s.ended ≡ false) (on : All (IsOn s.vars) lits) (a b : LineState) (out : s.output ≡ Some a) (unspent : a.spent ≡ false) (given : number ≡ a.last + 1) (put : PutLine a b (added_line a lits hints)) where
   abbrev put_output : LineState
-  put_output = with_line a (added_line a lits [])
+  put_output = with_line a (added_line a lits hints)
 
   pub number_is : number ≡ (book o.formula (journal_of o s)).next
   number_is = given ∙ sym (output_of o s a h out).last
 
   -- the port after it, with what it then holds and has seen
-  abbrev after : List Holding → List Literal → Option ℕ → Bool → PortState
-  after H S la en = record s { held = H; seen = S; mine = s.mine ++ entry_of s number lits kind ∷ []; last = la; ended = en; output = Some b }
+  abbrev after : List Holding → List Literal → List (Literal × ℕ) → Option ℕ → Bool → PortState
+  after H S T la en = record s { held = H; seen = S; told = T; mine = s.mine ++ entry_of s number lits kind hints ∷ []; last = la; ended = en; output = Some b }
 
-  has_lines : (H : List Holding) (S : List Literal) (la : Option ℕ) (en : Bool) → HasLines o (after H S la en) put_output
-  has_lines H S la en =
+  has_lines : (H : List Holding) (S : List Literal) (T : List (Literal × ℕ)) (la : Option ℕ) (en : Bool) → HasLines o (after H S T la en) put_output
+  has_lines H S T la en =
       let was = output_of o s a h out in
-      let more = lines_next o s h ring lits kind number follows going number_is in
-      let books = book_next o s h ring lits kind number in
+      let more = lines_next o s h ring lits kind number hints follows going number_is in
+      let books = book_next o s h ring lits kind number hints in
       record {
         entries = (let e = was.entries in let n = ap (λ L. length L) more in let m = length-append (lines o.formula (journal_of o s)) (AddLine lits ∷ []) in omega arith);
         last = (let l = was.last in let n = ap (λ (k : Book). k.next) books in omega arith);
         usable = was.usable;
-        caused = caused_later s (after H S la en) a put_output s.refused going put.room refl was.caused;
-        whole = λ q. has_text_next o s.mine a put_output (added_line a lits []) (was.whole q) (entry_of s number lits kind) (ap (λ (n : ℕ). Added n lits [] ∷ []) given) (record { room = put.room; state = refl });
+        caused = caused_later s (after H S T la en) a put_output s.refused going put.room refl was.caused;
+        whole = λ q. has_text_next o s.mine a put_output (added_line a lits hints) (was.whole q) (entry_of s number lits kind hints) (ap (λ (n : ℕ). Added n lits hints ∷ []) given) (record { room = put.room; state = refl });
         short = λ q. absurd (false≢true (sym unspent ∙ q));
         target = was.target;
         flushed = was.flushed;
       }
 
-  pub stands_after : (H : List Holding) (S : List Literal) (la : Option ℕ) (en : Bool)
-      → All (λ c. (book o.formula (o.journal ++ (s.mine ++ entry_of s number lits kind ∷ []))).clause c.number ≡ Some c.lits) H
-      → All (λ l. is_told o.formula (o.journal ++ (s.mine ++ entry_of s number lits kind ∷ [])) l ≡ true) S
-      → en ≡ ended o.formula (o.journal ++ (s.mine ++ entry_of s number lits kind ∷ []))
-      → ((a b : Holding) → Keeps (after H S la en) a → Keeps (after H S la en) b → a.number ≡ b.number → a ≡ b)
-      → StandsOver o (after H S la en)
-  stands_after H S la en held seen end numbers = record {
+  pub stands_after : (H : List Holding) (S : List Literal) (T : List (Literal × ℕ)) (la : Option ℕ) (en : Bool)
+      → All (λ c. (book o.formula (o.journal ++ (s.mine ++ entry_of s number lits kind hints ∷ []))).clause c.number ≡ Some c.lits) H
+      → All (λ l. is_told o.formula (o.journal ++ (s.mine ++ entry_of s number lits kind hints ∷ [])) l ≡ true) S
+      → (s.hinted ≡ true → All (λ u. (book o.formula (o.journal ++ (s.mine ++ entry_of s number lits kind hints ∷ []))).clause u.1 ≡ Some (u.0 ∷ [])) T)
+      → en ≡ ended o.formula (o.journal ++ (s.mine ++ entry_of s number lits kind hints ∷ []))
+      → ((a b : Holding) → Keeps (after H S T la en) a → Keeps (after H S T la en) b → a.number ≡ b.number → a ≡ b)
+      → StandsOver o (after H S T la en)
+  stands_after H S T la en held seen told end numbers = record {
     opens = h.opens;
     given = h.given;
-    sound = sound_next o s h ring lits kind number follows going number_is;
-    of_ring = All-append (λ e. ring_of e ≡ s.ring) s.mine (entry_of s number lits kind ∷ []) h.of_ring (one_All (λ e. ring_of e ≡ s.ring) (entry_of s number lits kind) refl);
-    on = subst (λ G. All (All (IsOn s.vars)) G) (sym (added-append s.mine (entry_of s number lits kind ∷ []))) (All-append (All (IsOn s.vars)) (added s.mine) (lits ∷ []) h.on (one_All (All (IsOn s.vars)) lits on));
+    sound = sound_next o s h ring lits kind number hints follows going number_is;
+    of_ring = All-append (λ e. ring_of e ≡ s.ring) s.mine (entry_of s number lits kind hints ∷ []) h.of_ring (one_All (λ e. ring_of e ≡ s.ring) (entry_of s number lits kind hints) refl);
+    on = subst (λ G. All (All (IsOn s.vars)) G) (sym (added-append s.mine (entry_of s number lits kind hints ∷ []))) (All-append (All (IsOn s.vars)) (added s.mine) (lits ∷ []) h.on (one_All (All (IsOn s.vars)) lits on));
     ended = end;
     held = held;
-    waiting = λ k d lt. alive_next o s h ring lits kind number _ _ (h.waiting k d lt);
+    waiting = λ k d lt. alive_next o s h ring lits kind number hints _ _ (h.waiting k d lt);
     numbers = numbers;
     seen = seen;
-    output = subst (λ w. HasLines o (after H S la en) w) (sym put.state) (has_lines H S la en);
+    told = told;
+    hints = λ q. each_last (IsHinted o.formula) o.journal s.mine (entry_of s number lits kind hints) (h.hints q) (hints_alive o s h lits hints fit q);
+    output = subst (λ w. HasLines o (after H S T la en) w) (sym put.state) (has_lines H S T la en);
   }
 
 -- A line at which the output failed, and which would be accepted
@@ -276,6 +284,8 @@ stands_failed o s h x accepted on a b out unspent failed =
       waiting = h.waiting;
       numbers = h.numbers;
       seen = h.seen;
+      told = h.told;
+      hints = h.hints;
       output = subst (λ v. HasLines o t v) (sym failed.state) lines_are;
     }
 
@@ -309,5 +319,7 @@ stands_with o s h a out S G n st k r en seen usable end caused =
       waiting = h.waiting;
       numbers = h.numbers;
       seen = seen;
+      told = h.told;
+      hints = h.hints;
       output = subst (λ (w : Option LineState). IsSomeAnd w (HasLines o t)) (sym out) lines_are;
     }

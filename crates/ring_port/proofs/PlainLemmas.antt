@@ -1,7 +1,7 @@
 -- What is kept of a port in memory, and what its calls find.
 use Rattle.std.proofs.Common.{◌≡◌, ◌≢◌, ℕ, suc, ◌+◌, ◌<◌, ◌≤◌, ◌^◌, ◌==◌, true, List, [], ◌∷◌, ◌++◌, length, take, drop, get_or, sym, refl, ap, subst, ◌∙◌, inl, inr, arith, Some, None, IsSome, IfSome, cond, eq-eqb, ne_eqb, false}
 use Rattle.std.specs.List.{All, slice_get, find, list_any}
-use Rattle.std.specs.Prelude.{is_some}
+use Rattle.std.specs.Prelude.{is_some, Result, Ok, Err}
 use Rattle.std.specs.Option.{option_or, unwrap_or}
 use Rattle.std.proofs.lemmas.List.Folds.{find-append, list_any-append}
 use Rattle.std.specs.declared.option.Option.{Option}
@@ -14,6 +14,7 @@ use Rattle.sat_words.specs.declared.shared.Head.{Head}
 use Rattle.sat_words.specs.declared.shared.Stop.{Stop}
 use Rattle.sat_words.specs.declared.shared.TheConstants.{STOP_SAT, STOP_MEMORY}
 use Rattle.rup_model.specs.declared.journal.Kind.{Kind}
+use Rattle.rup_model.specs.NumberedLines.{NumberedLine}
 use Rattle.drat_text.specs.LineState.{LineState}
 use Rattle.ring_port.specs.declared.draw.Tickets.{Tickets}
 use Rattle.ring_port.specs.declared.stops.PortStop.{PortStop}
@@ -21,12 +22,13 @@ use Rattle.ring_port.specs.declared.stops.PortStop.TheVariants.{Ended, Broken, P
 use Rattle.rup_model.proofs.Lists.{In, Contains_In}
 use Rattle.ring_port.specs.PortState.{Holding, PortState, AreApart, IsPort, IsKept, IsOn, IsStop, held_at, head_of, lits_in}
 use Rattle.ring_port.specs.Port.{KeepsHeld, WroteUnit, Refused, after_refusal}
-use Rattle.ring_port.specs.OwnLog.{LogData}
-use Rattle.ring_port.specs.PlainPort.{PlainData, PlainView, state_of, IsOwnStop, IsPlain}
+use Rattle.ring_port.specs.OwnLog.{LogData, AddedEntry, NotPut, WasReduced}
+use Rattle.ring_port.specs.PlainPort.{PlainData, PlainView, state_of, IsOwnStop, IsPlain, HasNumber, HasNumbers, told_with}
 use Rattle.ring_port.specs.Deleting.{without_one, DroppedOnce}
 use Rattle.ring_port.proofs.Holdings.{found_in_front, All_In}
 use Rattle.ring_port.proofs.LogSteps.{one_All}
-use Rattle.ring_port.proofs.Dropping.{is_at, none_at, never_at, found_address, find_In, apart_pushed, All_without, apart_without, find_other, gone, still_none}
+use Rattle.ring_port.proofs.Naming.{numbered_all, numbers_later, numbers_fewer, numbers_held, numbers_told}
+use Rattle.ring_port.proofs.Dropping.{is_at, none_at, never_at, found_address, find_In, apart_pushed, All_without, apart_without, without_in, find_other, gone, still_none}
 
 -- equal ports have equal states
 pub state_is : {v w : PlainView} → v ≡ w → v.state ≡ w.state
@@ -62,7 +64,32 @@ plain_port p h = record {
   ring = omega arith;
   deep = omega arith;
   few = h.few;
+  named = λ q. (let n = h.numbers q in numbered_all (state_of p) p.log.output.last p.opening p.written n
+      (All-append (HasNumber p.told) (take p.passed p.opening) p.written (All-take (HasNumber p.told) p.passed p.opening n.listed) n.wrote));
 }
+
+-- the number is the next, and given last
+abbrev pub IsNext : ℕ → ℕ → ℕ → Type 0
+IsNext before after number = (number ≡ before + 1) × (after ≡ before + 1)
+
+-- a line that was not put leaves the number given last
+pub last_kept : (old new : LogData) (x : NumberedLine) (stop : PortStop) → NotPut old new x stop → new.output.last ≡ old.output.last
+last_kept old new x Ended why = ap (λ (g : LogData). g.output.last) why.1
+last_kept old new x Broken why = absurd why
+last_kept old new x ProofFault why = ap (λ (g : LineState). g.last) why.put.state
+last_kept old new x (NoHole lack) why = ap (λ (g : LogData). g.output.last) why.state
+last_kept old new x Memory why = ap (λ (g : LogData). g.output.last) why
+
+pub same_last : {before after : ℕ} → after ≡ before → before ≤ after
+same_last e = omega arith
+
+pub reduced_last : (old new : LogData) (result : Result (Unit {0}) PortStop) → WasReduced old new result → new.output.last ≡ old.output.last
+reduced_last old new (Ok done) did = ap (λ (g : LogData). g.output.last) did.state
+reduced_last old new (Err stop) over = ap (λ (g : LogData). g.output.last) over.state
+
+-- a clause that was added has the next
+pub next_given : (old new : LogData) (lits : List Literal) (kind : Kind) (hints : List ℕ) (number : ℕ) → AddedEntry old new lits kind hints number → IsNext old.output.last new.output.last number
+next_given old new lits kind hints number added = (added.given, ap (λ (g : LineState). g.last) added.put.state)
 
 -- what is looked up
 pub at_address : (s : PortState) (a : ℕ) → IsSome (held_at s a) → IsSome (find (is_at a) s.held)
@@ -90,34 +117,35 @@ pub waits_nowhere : (hs : List Holding) (a : ℕ) → All (λ h. h.address ≢ a
 waits_nowhere [] a all = refl
 waits_nowhere (x ∷ hs) a all = rw (ne_eqb x.address a (all 0 x (omega arith))) (waits_nowhere hs a (λ k d lt. all (suc k) d (omega arith)))
 
--- the log is no part of what is kept
-pub plain_log : (p : PlainData) → IsPlain p → (g : LogData) (last : Option Cref) → IsPlain (record p { log = g; last = last })
-plain_log p h g last = record { held = h.held; waiting = h.waiting; start = h.start; apart = h.apart; dropped = h.dropped; once = h.once; opening = h.opening; distinct = h.distinct; passed = h.passed; given = h.given; given_room = h.given_room; written = h.written; stop = h.stop; few = h.few }
+-- of the log the number given last alone is a part of what is kept
+pub plain_log : (p : PlainData) → IsPlain p → (g : LogData) (last : Option Cref) → p.log.output.last ≤ g.output.last → IsPlain (record p { log = g; last = last })
+plain_log p h g last le = record { held = h.held; waiting = h.waiting; start = h.start; apart = h.apart; dropped = h.dropped; once = h.once; opening = h.opening; distinct = h.distinct; passed = h.passed; given = h.given; given_room = h.given_room; written = h.written; stop = h.stop; few = h.few; numbers = λ q. numbers_later p.log.output.last p.held p.told p.opening p.written (h.numbers q) g.output.last le }
 
 -- nor is how often no stop was found
 pub plain_looked : (p : PlainData) → IsPlain p → (k : ℕ) → IsPlain (record p { looks = k })
-plain_looked p h k = record { held = h.held; waiting = h.waiting; start = h.start; apart = h.apart; dropped = h.dropped; once = h.once; opening = h.opening; distinct = h.distinct; passed = h.passed; given = h.given; given_room = h.given_room; written = h.written; stop = h.stop; few = h.few }
+plain_looked p h k = record { held = h.held; waiting = h.waiting; start = h.start; apart = h.apart; dropped = h.dropped; once = h.once; opening = h.opening; distinct = h.distinct; passed = h.passed; given = h.given; given_room = h.given_room; written = h.written; stop = h.stop; few = h.few; numbers = h.numbers }
 
 -- nor is how often no unit was left
 pub plain_caught : (p : PlainData) → IsPlain p → (k : ℕ) → IsPlain (record p { caught_up = k })
-plain_caught p h k = record { held = h.held; waiting = h.waiting; start = h.start; apart = h.apart; dropped = h.dropped; once = h.once; opening = h.opening; distinct = h.distinct; passed = h.passed; given = h.given; given_room = h.given_room; written = h.written; stop = h.stop; few = h.few }
+plain_caught p h k = record { held = h.held; waiting = h.waiting; start = h.start; apart = h.apart; dropped = h.dropped; once = h.once; opening = h.opening; distinct = h.distinct; passed = h.passed; given = h.given; given_room = h.given_room; written = h.written; stop = h.stop; few = h.few; numbers = h.numbers }
 
 -- nor are the tickets, but for their number
 pub plain_tickets : (p : PlainData) → IsPlain p → (ti : Tickets) → ti.limit ≡ p.tickets.limit → IsPlain (record p { tickets = ti })
-plain_tickets p h ti same = record { held = h.held; waiting = h.waiting; start = h.start; apart = h.apart; dropped = h.dropped; once = h.once; opening = h.opening; distinct = h.distinct; passed = h.passed; given = h.given; given_room = h.given_room; written = h.written; stop = h.stop; few = subst (λ (n : ℕ). n < 2 ^ 64) (sym same) h.few }
+plain_tickets p h ti same = record { held = h.held; waiting = h.waiting; start = h.start; apart = h.apart; dropped = h.dropped; once = h.once; opening = h.opening; distinct = h.distinct; passed = h.passed; given = h.given; given_room = h.given_room; written = h.written; stop = h.stop; few = subst (λ (n : ℕ). n < 2 ^ 64) (sym same) h.few; numbers = h.numbers }
 
 -- a stop of its own is set
 pub plain_stopped : (p : PlainData) → IsPlain p → (kind : ℕ) → STOP_SAT ≤ kind → kind ≤ STOP_MEMORY → IsPlain (record p { stop = Some (record { kind = kind; ring = 0 }) })
-plain_stopped p h kind low high = record { held = h.held; waiting = h.waiting; start = h.start; apart = h.apart; dropped = h.dropped; once = h.once; opening = h.opening; distinct = h.distinct; passed = h.passed; given = h.given; given_room = h.given_room; written = h.written; stop = record { low = low; high = high; own = refl }; few = h.few }
+plain_stopped p h kind low high = record { held = h.held; waiting = h.waiting; start = h.start; apart = h.apart; dropped = h.dropped; once = h.once; opening = h.opening; distinct = h.distinct; passed = h.passed; given = h.given; given_room = h.given_room; written = h.written; stop = record { low = low; high = high; own = refl }; few = h.few; numbers = h.numbers }
 
 -- more units are given
 pub plain_given : (p : PlainData) → IsPlain p → (n : ℕ) (ls : List Literal) (r : ℕ) → n ≤ length p.opening → All (λ l. has (take n p.opening) l ≡ true) ls → length p.opening ≤ n + r
     → IsPlain (record p { passed = n; given = ls; given_room = r })
-plain_given p h n ls r le all room = record { held = h.held; waiting = h.waiting; start = h.start; apart = h.apart; dropped = h.dropped; once = h.once; opening = h.opening; distinct = h.distinct; passed = le; given = all; given_room = room; written = h.written; stop = h.stop; few = h.few }
+plain_given p h n ls r le all room = record { held = h.held; waiting = h.waiting; start = h.start; apart = h.apart; dropped = h.dropped; once = h.once; opening = h.opening; distinct = h.distinct; passed = le; given = all; given_room = room; written = h.written; stop = h.stop; few = h.few; numbers = h.numbers }
 
 -- a unit more
-pub plain_unit : (p : PlainData) → IsPlain p → (l : Literal) → IsOn p.vars l → (g : LogData) (last : Option Cref) (ti : Tickets) → ti.limit ≡ p.tickets.limit → IsPlain (record p { written = p.written ++ l ∷ []; log = g; last = last; tickets = ti })
-plain_unit p h l on g last ti same = record {
+pub plain_unit : (p : PlainData) → IsPlain p → (l : Literal) → IsOn p.vars l → (g : LogData) (number : ℕ) → IsNext p.log.output.last g.output.last number → (last : Option Cref) (ti : Tickets) → ti.limit ≡ p.tickets.limit
+    → IsPlain (record p { written = p.written ++ l ∷ []; told = told_with p.hinted p.told l number; log = g; last = last; tickets = ti })
+plain_unit p h l on g number next last ti same = record {
   held = h.held;
   waiting = h.waiting;
   start = h.start;
@@ -132,14 +160,16 @@ plain_unit p h l on g last ti same = record {
   written = All-append (IsOn p.vars) p.written (l ∷ []) h.written (one_All (IsOn p.vars) l on);
   stop = h.stop;
   few = subst (λ (n : ℕ). n < 2 ^ 64) (sym same) h.few;
+  numbers = λ q. subst (λ (m : ℕ). HasNumbers m p.held (told_with p.hinted p.told l number) p.opening (p.written ++ l ∷ [])) (sym next.1)
+      (numbers_told p.log.output.last p.held p.told p.opening p.written (h.numbers q) p.hinted q l number next.0);
 }
 
 -- the port with one clause more
 abbrev pub pushed_data : PlainData → Holding → LogData → Option Cref → Tickets → PlainData
 pushed_data p x g last ti = record p { held = p.held ++ x ∷ []; log = g; last = last; tickets = ti }
 
-pub plain_pushed : (p : PlainData) → IsPlain p → (x : Holding) → IsKept p.vars x → All (λ h. h.address ≢ x.address) p.held → All (λ h. h.address ≢ x.address) p.waiting → (g : LogData) (last : Option Cref) (ti : Tickets) → ti.limit ≡ p.tickets.limit → IsPlain (pushed_data p x g last ti)
-plain_pushed p h x kept not_held not_waiting g last ti same = record {
+pub plain_pushed : (p : PlainData) → IsPlain p → (x : Holding) → IsKept p.vars x → All (λ h. h.address ≢ x.address) p.held → All (λ h. h.address ≢ x.address) p.waiting → (g : LogData) → IsNext p.log.output.last g.output.last x.number → (last : Option Cref) (ti : Tickets) → ti.limit ≡ p.tickets.limit → IsPlain (pushed_data p x g last ti)
+plain_pushed p h x kept not_held not_waiting g next last ti same = record {
   held = All-append (IsKept p.vars) p.held (x ∷ []) h.held (one_All (IsKept p.vars) x kept);
   waiting = h.waiting;
   start = h.start;
@@ -157,6 +187,8 @@ plain_pushed p h x kept not_held not_waiting g last ti same = record {
   written = h.written;
   stop = h.stop;
   few = subst (λ (n : ℕ). n < 2 ^ 64) (sym same) h.few;
+  numbers = λ q. subst (λ (m : ℕ). HasNumbers m (p.held ++ x ∷ []) p.told p.opening p.written) (sym next.1)
+      (numbers_held p.log.output.last p.held p.told p.opening p.written (h.numbers q) x next.0);
 }
 
 -- a clause less, which waits
@@ -181,6 +213,7 @@ plain_dropped p h a x held last = record {
   written = h.written;
   stop = h.stop;
   few = h.few;
+  numbers = λ q. numbers_fewer p.log.output.last p.held p.told p.opening p.written (h.numbers q) (without_one p.held a) (λ k m. without_in p.held a k m);
 }
   where
     at : x.address ≡ a
@@ -202,8 +235,8 @@ some_waits [] some = absurd (omega arith)
 some_waits (h ∷ hs) some = (h, refl)
 
 -- one that waits less
-pub plain_deleted : (p : PlainData) → IsPlain p → (x : Holding) (xs : List Holding) (g : LogData) → p.waiting ≡ x ∷ xs → IsPlain (record p { waiting = xs; log = g })
-plain_deleted p h x xs g first =
+pub plain_deleted : (p : PlainData) → IsPlain p → (x : Holding) (xs : List Holding) (g : LogData) → p.log.output.last ≤ g.output.last → p.waiting ≡ x ∷ xs → IsPlain (record p { waiting = xs; log = g })
+plain_deleted p h x xs g le first =
     let kept : All (IsKept p.vars) (x ∷ xs) = subst (All (IsKept p.vars)) first h.waiting in
     let none : All (λ k. find (is_at k.address) p.held ≡ None) (x ∷ xs) = subst (All (λ k. find (is_at k.address) p.held ≡ None)) first h.dropped in
     record {
@@ -221,6 +254,7 @@ plain_deleted p h x xs g first =
       written = h.written;
       stop = h.stop;
       few = h.few;
+      numbers = λ q. numbers_later p.log.output.last p.held p.told p.opening p.written (h.numbers q) g.output.last le;
     }
 
 -- what is held stays held when a clause is pushed

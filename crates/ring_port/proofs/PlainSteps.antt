@@ -1,5 +1,5 @@
 -- What the calls of a port in memory keep of the one journal behind it.
-use Rattle.std.proofs.Common.{◌≡◌, ◌≢◌, ℕ, ◌+◌, ◌-◌, ◌≤◌, inl, inr, ⊎_elim, drop, true, false, not, List, [], ◌∷◌, ◌++◌, length, take, sym, refl, ap, subst, ◌∙◌, arith, Some, None, Result, Ok, Err, IsSome, append_assoc, append-nil, length-append}
+use Rattle.std.proofs.Common.{◌≡◌, ◌≢◌, ℕ, ◌+◌, ◌-◌, ◌≤◌, ◌||◌, inl, inr, ⊎_elim, drop, Bool, true, false, not, List, [], ◌∷◌, ◌++◌, length, take, sym, refl, ap, subst, ◌∙◌, arith, Some, None, Result, Ok, Err, IsSome, append_assoc, append-nil, length-append}
 use Rattle.std.specs.List.{All, Contains, find}
 use Rattle.rup_model.proofs.Lists.{In, In_append, In_Contains, Contains_In}
 use Rattle.std.specs.Option.{option_map}
@@ -7,8 +7,11 @@ use Rattle.std.specs.declared.option.Option.{Option}
 use Rattle.std.proofs.lemmas.Bool.{not-true, or_right, false≢true}
 use Rattle.std.proofs.lemmas.List.{get_or-append-add}
 use Rattle.std.proofs.lemmas.List.Elements.{All-append, All-take}
-use Rattle.sat_words.specs.Literal.{Literal}
-use Rattle.sat_words.specs.Clause.{is_empty}
+use Rattle.sat_words.specs.Literal.{Literal, same}
+use Rattle.sat_words.specs.Clause.{is_empty, has}
+use Rattle.sat_words.proofs.Members.{same-true, same-refl}
+use Rattle.rup_model.proofs.Covers.{both_true}
+use Rattle.std.proofs.lemmas.List.Folds.{list_any-append}
 use Rattle.sat_words.specs.declared.shared.Cref.{Cref}
 use Rattle.sat_words.specs.declared.shared.Stop.{Stop}
 use Rattle.drat_text.specs.LineOut.{added_line, deleted_line}
@@ -21,16 +24,16 @@ use Rattle.ring_port.specs.declared.draw.Tickets.{Tickets}
 use Rattle.ring_port.specs.declared.stops.PortStop.{PortStop}
 use Rattle.ring_port.specs.declared.stops.PortStop.TheVariants.{Ended, Broken, ProofFault, NoHole, Memory}
 use Rattle.ring_port.specs.PortState.{Holding, PortState, AreApart, IsKept, IsOn, held_at, known}
-use Rattle.ring_port.specs.Port.{is_usable, holding_of, last_after, ticket_after, AddedClause}
+use Rattle.ring_port.specs.Port.{is_usable, holding_of, last_after, ticket_after, AddedClause, WroteUnit, AreHints, EndsWith}
 use Rattle.ring_port.specs.Log.{Origin, Keeps, StandsOver, KeepsLog, journal_of}
 use Rattle.ring_port.specs.OwnLog.{LogData, AddedEntry, DeletedEntry, NotPut, WasReduced, own_entry}
-use Rattle.ring_port.specs.PlainPort.{PlainData, state_of, IsPlain}
+use Rattle.ring_port.specs.PlainPort.{PlainData, state_of, IsPlain, told_with}
 use Rattle.ring_port.specs.Exchange.{OfferedAs}
 use Rattle.ring_port.specs.Deleting.{without_one, unless_at, deletions, DroppedOnce, TidiedUpTo}
 use Rattle.ring_port.proofs.Holdings.{All_In}
 use Rattle.ring_port.proofs.Dropping.{is_at, find_In, never_at, gone, without_in, All_without}
 use Rattle.ring_port.proofs.PlainLemmas.{pushed_data, dropped_data, free_of, waits_nowhere, found_pushed, same_lookup}
-use Rattle.ring_port.proofs.LogSteps.{one_All, output_of, held_next, added_here, all_told_next, told_here, ended_next, ended_stays, number_is, stands_after, stands_failed, stands_with, numbers_next, accepted_next, caused_same}
+use Rattle.ring_port.proofs.LogSteps.{one_All, or_none, output_of, held_next, told_alive_next, added_here, all_told_next, told_here, ended_next, ended_stays, number_is, stands_after, stands_failed, stands_with, numbers_next, accepted_next, caused_same}
 use Rattle.ring_port.proofs.Deletions.{accepted_deletion, stands_deleted, stands_dropped}
 use Rattle.ring_port.proofs.Reductions.{stands_reduced}
 
@@ -56,6 +59,8 @@ tickets_keep p ti o h =
       waiting = h.waiting;
       numbers = h.numbers;
       seen = h.seen;
+      told = h.told;
+      hints = h.hints;
       output = record {
         entries = was.entries;
         last = was.last;
@@ -69,71 +74,79 @@ tickets_keep p ti o h =
     }
 
 -- the line of a unit
-pub unit_keeps : (p : PlainData) (r : ℕ) (g : LogData) (l : Literal) (kind : Kind) (number : ℕ) (last : Option Cref) (ti : Tickets)
-    → is_usable p.log.refused ≡ true → IsOn p.vars l → rup (known (state_of p)) (l ∷ []) ≡ true → AddedEntry (record p.log { room = r }) g (l ∷ []) kind number
-    → KeepsLog (state_of p) (state_of (record p { written = p.written ++ l ∷ []; log = g; last = last; tickets = ti }))
-unit_keeps p r g l kind number last ti usable on follows added o h =
+pub unit_keeps : (p : PlainData) (r : ℕ) (g : LogData) (l : Literal) (kind : Kind) (number : ℕ) (hints : List ℕ) (last : Option Cref) (ti : Tickets)
+    → is_usable p.log.refused ≡ true → IsOn p.vars l → rup (known (state_of p)) (l ∷ []) ≡ true → AreHints (state_of p) (l ∷ []) hints → AddedEntry (record p.log { room = r }) g (l ∷ []) kind hints number
+    → KeepsLog (state_of p) (state_of (record p { written = p.written ++ l ∷ []; told = told_with p.hinted p.told l number; log = g; last = last; tickets = ti }))
+unit_keeps p r g l kind number hints last ti usable on follows fit added o h =
     let s = state_of p in
-    let next = number_is o s h refl (l ∷ []) kind number follows added.going (one_All (IsOn p.vars) l on) p.log.output g.output refl (unspent_of o p h usable) added.given added.put in
-    let seen = subst (λ (ls : List Literal). All (λ k. is_told o.formula (o.journal ++ (p.log.mine ++ own_entry number (l ∷ []) kind ∷ [])) k ≡ true) ls) (append_assoc (take p.passed p.opening) p.written (l ∷ []))
-    (All-append (λ k. is_told o.formula (o.journal ++ (p.log.mine ++ own_entry number (l ∷ []) kind ∷ [])) k ≡ true) (take p.passed p.opening ++ p.written) (l ∷ [])
-    (all_told_next o s h refl (l ∷ []) kind number (take p.passed p.opening ++ p.written) h.seen)
-    (one_All (λ k. is_told o.formula (o.journal ++ (p.log.mine ++ own_entry number (l ∷ []) kind ∷ [])) k ≡ true) l (told_here o s h refl (l ∷ []) kind number l refl))) in
-    tickets_keep (record p { written = p.written ++ l ∷ []; log = g; last = last }) ti o
-    (subst (λ k. StandsOver o (state_of (record p { written = p.written ++ l ∷ []; log = k; last = last }))) (sym added.state)
-    (stands_after o s h refl (l ∷ []) kind number follows added.going (one_All (IsOn p.vars) l on) p.log.output g.output refl (unspent_of o p h usable) added.given added.put
-    p.held (take p.passed p.opening ++ (p.written ++ l ∷ [])) (option_map (λ c. c.address) last) p.log.ended
-    (held_next o s h refl (l ∷ []) kind number) seen (h.ended ∙ sym (ended_stays o s h refl (l ∷ []) kind number refl)) h.numbers))
+    let next = number_is o s h refl (l ∷ []) kind number hints fit follows added.going (one_All (IsOn p.vars) l on) p.log.output g.output refl (unspent_of o p h usable) added.given added.put in
+    let grown = o.journal ++ (p.log.mine ++ own_entry number (l ∷ []) kind hints ∷ []) in
+    let seen = subst (λ (ls : List Literal). All (λ k. is_told o.formula grown k ≡ true) ls) (append_assoc (take p.passed p.opening) p.written (l ∷ []))
+    (All-append (λ k. is_told o.formula grown k ≡ true) (take p.passed p.opening ++ p.written) (l ∷ [])
+    (all_told_next o s h refl (l ∷ []) kind number hints (take p.passed p.opening ++ p.written) h.seen)
+    (one_All (λ k. is_told o.formula grown k ≡ true) l (told_here o s h refl (l ∷ []) kind number hints l refl))) in
+    let told : p.hinted ≡ true → All (λ u. (book o.formula grown).clause u.1 ≡ Some (u.0 ∷ [])) (told_with p.hinted p.told l number) = λ q.
+    subst (λ (b : Bool). All (λ u. (book o.formula grown).clause u.1 ≡ Some (u.0 ∷ [])) (told_with b p.told l number)) (sym q)
+    (All-append (λ u. (book o.formula grown).clause u.1 ≡ Some (u.0 ∷ [])) p.told ((l, number) ∷ [])
+    (told_alive_next o s h refl (l ∷ []) kind number hints p.told (h.told q))
+    (one_All (λ u. (book o.formula grown).clause u.1 ≡ Some (u.0 ∷ [])) (l, number) (added_here o s h refl (l ∷ []) kind number hints next))) in
+    tickets_keep (record p { written = p.written ++ l ∷ []; told = told_with p.hinted p.told l number; log = g; last = last }) ti o
+    (subst (λ k. StandsOver o (state_of (record p { written = p.written ++ l ∷ []; told = told_with p.hinted p.told l number; log = k; last = last }))) (sym added.state)
+    (stands_after o s h refl (l ∷ []) kind number hints fit follows added.going (one_All (IsOn p.vars) l on) p.log.output g.output refl (unspent_of o p h usable) added.given added.put
+    p.held (take p.passed p.opening ++ (p.written ++ l ∷ [])) (told_with p.hinted p.told l number) (option_map (λ c. c.address) last) p.log.ended
+    (held_next o s h refl (l ∷ []) kind number hints) seen told (h.ended ∙ sym (ended_stays o s h refl (l ∷ []) kind number hints refl)) h.numbers))
 
 -- the line of a longer clause
-pub clause_keeps : (p : PlainData) (r : ℕ) (g : LogData) (lits : List Literal) (kind : Kind) (number glue address : ℕ) (last : Option Cref) (ti : Tickets) → IsPlain p
-    → is_usable p.log.refused ≡ true → 2 ≤ length lits → All (IsOn p.vars) lits → rup (known (state_of p)) lits ≡ true → AddedEntry (record p.log { room = r }) g lits kind number
+pub clause_keeps : (p : PlainData) (r : ℕ) (g : LogData) (lits : List Literal) (kind : Kind) (number glue address : ℕ) (hints : List ℕ) (last : Option Cref) (ti : Tickets) → IsPlain p
+    → is_usable p.log.refused ≡ true → 2 ≤ length lits → All (IsOn p.vars) lits → rup (known (state_of p)) lits ≡ true → AreHints (state_of p) lits hints → AddedEntry (record p.log { room = r }) g lits kind hints number
     → KeepsLog (state_of p) (state_of (pushed_data p (record { address = address; number = number; glue = glue; lits = lits }) g last ti))
-clause_keeps p r g lits kind number glue address last ti plain usable long on follows added o h =
+clause_keeps p r g lits kind number glue address hints last ti plain usable long on follows fit added o h =
     let s = state_of p in
     let x : Holding = record { address = address; number = number; glue = glue; lits = lits } in
-    let next = number_is o s h refl lits kind number follows added.going on p.log.output g.output refl (unspent_of o p h usable) added.given added.put in
-    let held = All-append (λ c. (book o.formula (o.journal ++ (p.log.mine ++ own_entry number lits kind ∷ []))).clause c.number ≡ Some c.lits) p.held (x ∷ []) (held_next o s h refl lits kind number)
-    (one_All (λ c. (book o.formula (o.journal ++ (p.log.mine ++ own_entry number lits kind ∷ []))).clause c.number ≡ Some c.lits) x (added_here o s h refl lits kind number next)) in
+    let next = number_is o s h refl lits kind number hints fit follows added.going on p.log.output g.output refl (unspent_of o p h usable) added.given added.put in
+    let held = All-append (λ c. (book o.formula (o.journal ++ (p.log.mine ++ own_entry number lits kind hints ∷ []))).clause c.number ≡ Some c.lits) p.held (x ∷ []) (held_next o s h refl lits kind number hints)
+    (one_All (λ c. (book o.formula (o.journal ++ (p.log.mine ++ own_entry number lits kind hints ∷ []))).clause c.number ≡ Some c.lits) x (added_here o s h refl lits kind number hints next)) in
     let pushed : LogData → PortState = λ k. state_of (record p { held = p.held ++ x ∷ []; log = k; last = last }) in
     tickets_keep (record p { held = p.held ++ x ∷ []; log = g; last = last }) ti o
     (subst (λ k. StandsOver o (pushed k)) (sym added.state)
-    (stands_after o s h refl lits kind number follows added.going on p.log.output g.output refl (unspent_of o p h usable) added.given added.put
-    (p.held ++ x ∷ []) (take p.passed p.opening ++ p.written) (option_map (λ c. c.address) last) p.log.ended
-    held (all_told_next o s h refl lits kind number (take p.passed p.opening ++ p.written) h.seen)
-    (h.ended ∙ sym (ended_stays o s h refl lits kind number (some_literal lits long)))
-    (numbers_next o s h refl lits kind number x next (pushed (record p.log { output = g.output; mine = p.log.mine ++ own_entry number lits kind ∷ []; room = g.room })) refl refl)))
+    (stands_after o s h refl lits kind number hints fit follows added.going on p.log.output g.output refl (unspent_of o p h usable) added.given added.put
+    (p.held ++ x ∷ []) (take p.passed p.opening ++ p.written) p.told (option_map (λ c. c.address) last) p.log.ended
+    held (all_told_next o s h refl lits kind number hints (take p.passed p.opening ++ p.written) h.seen)
+    (λ q. told_alive_next o s h refl lits kind number hints p.told (h.told q))
+    (h.ended ∙ sym (ended_stays o s h refl lits kind number hints (some_literal lits long)))
+    (numbers_next o s h refl lits kind number hints x next (pushed (record p.log { output = g.output; mine = p.log.mine ++ own_entry number lits kind hints ∷ []; room = g.room })) refl refl)))
 
 -- the empty clause
-pub empty_keeps : (p : PlainData) (r : ℕ) (g : LogData) (kind : Kind) (number : ℕ)
-    → is_usable p.log.refused ≡ true → rup (known (state_of p)) [] ≡ true → AddedEntry (record p.log { room = r }) g [] kind number
+pub empty_keeps : (p : PlainData) (r : ℕ) (g : LogData) (kind : Kind) (number : ℕ) (hints : List ℕ)
+    → is_usable p.log.refused ≡ true → rup (known (state_of p)) [] ≡ true → AreHints (state_of p) [] hints → AddedEntry (record p.log { room = r }) g [] kind hints number
     → KeepsLog (state_of p) (state_of (record p { log = record g { ended = true } }))
-empty_keeps p r g kind number usable follows added o h =
+empty_keeps p r g kind number hints usable follows fit added o h =
     let s = state_of p in
     let none : All (IsOn p.vars) [] = λ k d lt. absurd (omega arith) in
     subst (λ k. StandsOver o (state_of (record p { log = record k { ended = true } }))) (sym added.state)
-    (stands_after o s h refl [] kind number follows added.going none p.log.output g.output refl (unspent_of o p h usable) added.given added.put
-    p.held (take p.passed p.opening ++ p.written) (option_map (λ c. c.address) p.last) true
-    (held_next o s h refl [] kind number) (all_told_next o s h refl [] kind number (take p.passed p.opening ++ p.written) h.seen)
-    (sym (ended_next o s h refl [] kind number ∙ or_right _ _ refl)) h.numbers)
+    (stands_after o s h refl [] kind number hints fit follows added.going none p.log.output g.output refl (unspent_of o p h usable) added.given added.put
+    p.held (take p.passed p.opening ++ p.written) p.told (option_map (λ c. c.address) p.last) true
+    (held_next o s h refl [] kind number hints) (all_told_next o s h refl [] kind number hints (take p.passed p.opening ++ p.written) h.seen)
+    (λ q. told_alive_next o s h refl [] kind number hints p.told (h.told q))
+    (sym (ended_next o s h refl [] kind number hints ∙ or_right _ _ refl)) h.numbers)
 
 -- no line
-pub refused_keeps : (p : PlainData) (r : ℕ) (g : LogData) (lits : List Literal) (stop : PortStop)
-    → is_usable p.log.refused ≡ true → All (IsOn p.vars) lits → rup (known (state_of p)) lits ≡ true → NotPut (record p.log { room = r }) g (added_line p.log.output lits []) stop
+pub refused_keeps : (p : PlainData) (r : ℕ) (g : LogData) (lits : List Literal) (hints : List ℕ) (stop : PortStop)
+    → is_usable p.log.refused ≡ true → All (IsOn p.vars) lits → rup (known (state_of p)) lits ≡ true → NotPut (record p.log { room = r }) g (added_line p.log.output lits hints) stop
     → KeepsLog (state_of p) (state_of (record p { log = g }))
-refused_keeps p r g lits Ended usable on follows why o h =
+refused_keeps p r g lits hints Ended usable on follows why o h =
     subst (λ k. StandsOver o (state_of (record p { log = k }))) (sym why.1)
     (stands_with o (state_of p) h p.log.output refl (take p.passed p.opening ++ p.written) p.given (length p.opening - p.passed) p.stop p.looks (Some Ended) p.log.ended
     h.seen (sym (ap not (unspent_of o p h usable))) refl why.0)
-refused_keeps p r g lits Broken usable on follows why o h = absurd why
-refused_keeps p r g lits ProofFault usable on follows why o h =
+refused_keeps p r g lits hints Broken usable on follows why o h = absurd why
+refused_keeps p r g lits hints ProofFault usable on follows why o h =
     subst (λ k. StandsOver o (state_of (record p { log = k }))) (sym why.state)
-    (stands_failed o (state_of p) h (added_line p.log.output lits []) (accepted_next o (state_of p) h refl lits Learn (book o.formula (journal_of o (state_of p))).next follows why.going refl) on p.log.output g.output refl (unspent_of o p h usable) why.put)
-refused_keeps p r g lits (NoHole lack) usable on follows why o h =
+    (stands_failed o (state_of p) h (added_line p.log.output lits hints) (accepted_next o (state_of p) h refl lits Learn (book o.formula (journal_of o (state_of p))).next hints follows why.going refl) on p.log.output g.output refl (unspent_of o p h usable) why.put)
+refused_keeps p r g lits hints (NoHole lack) usable on follows why o h =
     subst (λ k. StandsOver o (state_of (record p { log = k }))) (sym why.state)
     (stands_with o (state_of p) h p.log.output refl (take p.passed p.opening ++ p.written) p.given (length p.opening - p.passed) p.stop p.looks (Some (NoHole lack)) p.log.ended
     h.seen (sym (ap not (unspent_of o p h usable))) refl (why.full, why.needed, why.found))
-refused_keeps p r g lits Memory usable on follows why o h = subst (λ k. StandsOver o (state_of (record p { log = k }))) (sym why) h
+refused_keeps p r g lits hints Memory usable on follows why o h = subst (λ k. StandsOver o (state_of (record p { log = k }))) (sym why) h
 
 -- the note of a reduction
 pub reduce_keeps : (p : PlainData) (r : ℕ) (g : LogData) (result : Result (Unit {0}) PortStop) → is_usable p.log.refused ≡ true → WasReduced (record p.log { room = r }) g result
@@ -172,6 +185,8 @@ last_keeps p la o h =
       waiting = h.waiting;
       numbers = h.numbers;
       seen = h.seen;
+      told = h.told;
+      hints = h.hints;
       output = record {
         entries = was.entries;
         last = was.last;
@@ -199,6 +214,8 @@ caught_keeps p k o h =
       waiting = h.waiting;
       numbers = h.numbers;
       seen = h.seen;
+      told = h.told;
+      hints = h.hints;
       output = record {
         entries = was.entries;
         last = was.last;
@@ -217,6 +234,37 @@ looked_keeps p st k o h =
     let was = output_of o (state_of p) p.log.output h refl in
     stands_with o (state_of p) h p.log.output refl (take p.passed p.opening ++ p.written) p.given (length p.opening - p.passed) st k p.log.refused p.log.ended h.seen was.usable refl was.caused
 
+same_swap : (k l : Literal) → same k l ≡ same l k
+same_swap k l =
+    both_true (same k l) (same l k)
+    (λ e. subst (λ x. same x k ≡ true) (same-true k l e) (same-refl k))
+    (λ e. subst (λ x. same x l ≡ true) (same-true l k e) (same-refl l))
+
+-- what the line of a unit did to the port
+pub unit_put : (p : PlainData) (r : ℕ) (g : LogData) (l : Literal) (kind : Kind) (number : ℕ) (hints : List ℕ) (last : Option Cref) (ti : Tickets)
+    → ti ≡ record p.tickets { in_hand = ticket_after kind p.tickets.in_hand } → AddedEntry (record p.log { room = r }) g (l ∷ []) kind hints number
+    → WroteUnit (state_of p) (state_of (record p { written = p.written ++ l ∷ []; told = told_with p.hinted p.told l number; log = g; last = last; tickets = ti })) l kind (option_map (λ c. c.address) last)
+unit_put p r g l kind number hints last ti used added =
+    let front = take p.passed p.opening in
+    let grown : LogData = record p.log { room = g.room; output = g.output; mine = p.log.mine ++ own_entry number (l ∷ []) kind hints ∷ [] } in
+    let put : LogData → Tickets → PortState = λ k u. state_of (record p { written = p.written ++ l ∷ []; told = told_with p.hinted p.told l number; log = k; last = last; tickets = u }) in
+    record {
+      number = number;
+      hints = hints;
+      going = added.going;
+      sees = λ k.
+          ap (λ ls. has ls k) (sym (append_assoc front p.written (l ∷ [])))
+          ∙ list_any-append (same k) (front ++ p.written) (l ∷ [])
+          ∙ ap (λ b. has (front ++ p.written) k || b) (or_none (same k l) ∙ same_swap k l);
+      looked = omega arith;
+      state = ap (λ k. put k ti) added.state ∙ ap (put grown) used;
+    }
+
+-- the entry of a line that stands ends the ring's
+pub ends_with : (p : PlainData) (r : ℕ) (g : LogData) (lits : List Literal) (kind : Kind) (hints : List ℕ) (number : ℕ) → AddedEntry (record p.log { room = r }) g lits kind hints number
+    → (log : LogData) → log.mine ≡ g.mine → EndsWith (state_of (record p { log = log })) hints
+ends_with p r g lits kind hints number added log mine = (p.log.mine, number, lits, kind, mine ∙ ap (λ (k : LogData). k.mine) added.state)
+
 -- there is no ring to offer a clause to
 pub offer_did : (p : PlainData) (class : Option ℕ) (a : ℕ) → IsSome class → OfferedAs (state_of p) (state_of (record p { last = None })) class a
 offer_did p None a some = absurd (false≢true some)
@@ -229,16 +277,17 @@ offer_did p (Some class) a some = record {
 }
 
 -- what a longer clause did to the port
-pub clause_put : (p : PlainData) → (r : ℕ) (g : LogData) (lits : List Literal) (kind : Kind) (number glue : ℕ) (c : Cref) (last : Option Cref) (ti : Tickets)
+pub clause_put : (p : PlainData) → (r : ℕ) (g : LogData) (lits : List Literal) (kind : Kind) (number glue : ℕ) (hints : List ℕ) (c : Cref) (last : Option Cref) (ti : Tickets)
     → All (λ h. h.address ≢ c.address) p.held → All (λ h. h.address ≢ c.address) p.waiting
-    → 2 ≤ length lits → option_map (λ x. x.address) last ≡ last_after kind (option_map (λ x. x.address) p.last) c.address → ti ≡ record p.tickets { in_hand = ticket_after kind p.tickets.in_hand } → AddedEntry (record p.log { room = r }) g lits kind number
+    → 2 ≤ length lits → option_map (λ x. x.address) last ≡ last_after kind (option_map (λ x. x.address) p.last) c.address → ti ≡ record p.tickets { in_hand = ticket_after kind p.tickets.in_hand } → AddedEntry (record p.log { room = r }) g lits kind hints number
     → AddedClause (state_of p) (state_of (pushed_data p (holding_of c number glue lits) g last ti)) lits glue kind c
-clause_put p r g lits kind number glue c last ti not_held not_waiting long is used added =
+clause_put p r g lits kind number glue hints c last ti not_held not_waiting long is used added =
     let x : Holding = holding_of c number glue lits in
-    let grown : LogData = record p.log { room = g.room; output = g.output; mine = p.log.mine ++ own_entry number lits kind ∷ [] } in
+    let grown : LogData = record p.log { room = g.room; output = g.output; mine = p.log.mine ++ own_entry number lits kind hints ∷ [] } in
     let none : held_at (state_of p) c.address ≡ None = free_of (state_of p) c.address not_held in
     record {
       number = number;
+      hints = hints;
       going = added.going;
       long = long;
       free = record { not_held = none; not_waiting = waits_nowhere p.waiting c.address not_waiting };

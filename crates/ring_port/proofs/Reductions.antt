@@ -13,6 +13,8 @@ use Rattle.rup_model.specs.Journal.{Book, book, lines, added, ring_of, LogSound}
 use Rattle.rup_model.proofs.Numbers.{book_last, lines_last}
 use Rattle.rup_model.proofs.JournalSteps.{not_added, log_reduces}
 use Rattle.rup_model.proofs.Additions.{added-append}
+use Rattle.rup_model.proofs.Sequences.{each_last}
+use Rattle.rup_model.specs.NumberedLines.{IsHinted}
 use Rattle.drat_text.specs.LineState.{LineState}
 use Rattle.drat_text.proofs.JournalLines.{has_text_still}
 use Rattle.ring_port.specs.PortState.{PortState, IsOn}
@@ -74,6 +76,8 @@ module _ (o : Origin) (s : PortState) (h : StandsOver o s) where
     waiting = subst (λ (b : Book). All (λ c. b.clause c.number ≡ Some c.lits) s.waiting) (sym book_same) h.waiting;
     numbers = h.numbers;
     seen = subst (λ (G : List (List Literal)). All (λ l. list_any (same_set (l ∷ [])) (F ++ G) ≡ true) s.seen) (sym added_same) h.seen;
+    told = λ q. subst (λ (b : Book). All (λ u. b.clause u.1 ≡ Some (u.0 ∷ [])) s.told) (sym book_same) (h.told q);
+    hints = λ q. each_last (IsHinted F) o.journal s.mine (Reduce s.ring) (h.hints q) tt;
     output = some_still s.output (has_lines_still usable) h.output;
   }
     where

@@ -4,7 +4,7 @@ use Rattle.std.specs.List.{position, prefix_len}
 use Rattle.std.proofs.lemmas.Bool.{or_left, or_right, or_cases, not-false, not-true, and_parts, false≢true, true≢false, cases_lt, lt-ltb}
 use Rattle.std.proofs.lemmas.List.{take-append-drop, get_or-take, get_or-drop, length-drop, length-take}
 use Rattle.std.proofs.lemmas.List.Quantifiers.{position-Some}
-use Rattle.std.specs.List.{All}
+use Rattle.std.specs.List.{All, Contains}
 use Rattle.std.proofs.lemmas.List.Elements.{All-append}
 use Rattle.ring_port.proofs.LogSteps.{one_All}
 use Rattle.std.proofs.Math.Seq.{take-add}
@@ -12,7 +12,7 @@ use Rattle.sat_words.specs.Literal.{Literal, same}
 use Rattle.sat_words.specs.Clause.{has, distinct_lits}
 use Rattle.std.proofs.lemmas.List.Folds.{list_any-append}
 use Rattle.sat_words.proofs.Members.{same-true, same-refl}
-use Rattle.rup_model.proofs.Lists.{In, In_append, In_append_left, In_append_right, In_Contains, In_get_or, has_In, In_has}
+use Rattle.rup_model.proofs.Lists.{In, In_append, In_append_left, In_append_right, In_Contains, Contains_In, In_get_or, has_In, In_has}
 use Rattle.rup_model.proofs.Covers.{both_true}
 use Rattle.ring_port.specs.Port.{Sees, TookUnit, TookNone}
 use Rattle.ring_port.specs.PortState.{one_more as one_more_count}
@@ -30,7 +30,7 @@ passes_ends {X} p (y ∷ ys) x i passes = at (p y) refl (passes_ends p ys x)
         let less : prefix_len (λ z. not (p z)) ys < length ys = ⊎_elim (λ (q : y ≡ x). absurd (false≢true (sym e ∙ ap p q ∙ passes))) (λ k. rest k passes) i in
         omega arith
 
-position_none : {X : Type 0} (p : X → Bool) (xs : List X) (x : X) → position p xs ≡ None → In x xs → p x ≡ false
+pub position_none : {X : Type 0} (p : X → Bool) (xs : List X) (x : X) → position p xs ≡ None → In x xs → p x ≡ false
 position_none {X} p xs x none i = at (p x) refl
   where
     at : (b : Bool) → p x ≡ b → p x ≡ false
@@ -39,6 +39,16 @@ position_none {X} p xs x none i = at (p x) refl
         let less = passes_ends p xs x i e in
         let some : position p xs ≡ Some (prefix_len (λ y. not (p y)) xs) = ap (λ b. cond b (Some (prefix_len (λ y. not (p y)) xs)) None) (lt-ltb (prefix_len (λ y. not (p y)) xs) (length xs) less) in
         absurd (cc (sym none ∙ some))
+
+-- a unit at the place that was found has a number; if none was found it has none
+pub number_there : (told : List (Literal × ℕ)) (l : Literal) (k : ℕ) (u : Literal × ℕ) → position (λ x. same x.0 l) told ≡ Some k → u ≡ get_or told k u → Contains told (l, u.1)
+number_there told l k u some is =
+    let t = position-Some (λ (x : Literal × ℕ). same x.0 l) told k u some in
+    let here : u.0 ≡ l = ap (λ (x : Literal × ℕ). x.0) is ∙ same-true (get_or told k u).0 l t.1 in
+    In_Contains told (l, u.1) (subst (λ (j : Literal). In (j, u.1) told) here (subst (λ (x : Literal × ℕ). In x told) (sym is) (In_get_or told k u t.0)))
+
+pub number_nowhere : (told : List (Literal × ℕ)) (l : Literal) → position (λ x. same x.0 l) told ≡ None → (n : ℕ) → Contains told (l, n) → ⊥
+number_nowhere told l none n there = false≢true (sym (position_none (λ (x : Literal × ℕ). same x.0 l) told (l, n) none (Contains_In told (l, n) there)) ∙ same-refl l)
 
 -- if every unit left was written, all are seen
 pub none_left : (n : ℕ) (opening written : List Literal) → position (λ l. not (has written l)) (drop n opening) ≡ None

@@ -1,8 +1,10 @@
 -- The log of a port that writes alone: one journal, of the ruler's entries and the ring's own, whose lines its output has.
-use Rattle.std.specs.Prelude.{◌≡◌, ◌+◌, ◌⊎◌, true, false, not, List, ◌++◌, map, length, All, Contains, Option, Some, None, IsSomeAnd, ⊤}
+use Rattle.std.specs.Prelude.{◌≡◌, ◌+◌, ◌⊎◌, true, false, not, List, [], ◌∷◌, ◌++◌, map, length, All, Contains, Option, Some, None, IsSomeAnd, ⊤}
 use Rattle.std.specs.List.{list_any}
 use Rattle.sat_words.specs.Clause.{is_empty}
 use Rattle.rup_model.specs.declared.journal.Entry.{Entry}
+use Rattle.rup_model.specs.Basics.{EachAfter}
+use Rattle.rup_model.specs.NumberedLines.{IsHinted}
 use Rattle.rup_model.specs.Journal.{book, lines, added, ended, is_told, ring_of, LogSound}
 use Rattle.rup_model.specs.Opening.{Opening, Start, IsOpening}
 use Rattle.sat_words.specs.declared.shared.TheConstants.{MAX_ENTRIES}
@@ -54,7 +56,8 @@ Keeps s h = Contains s.held h ⊎ Contains s.waiting h
 
 -- the port stands over this origin: the formula has no empty clause, each line of the one journal is valid where it stands,
 -- all that the ring holds, that waits for its deletion or that was seen is alive in the log, each clause under a number of its
--- own, and the output has the lines
+-- own, and the output has the lines; in a log with hints so are the units under their numbers, and those of each addition of the ring
+-- show that it follows from what is alive before it
 pub record StandsOver (o : Origin) (s : PortState) : Type 0 where
   pub opens : IsOpening o.formula (opening_of o s)
   pub given : list_any is_empty o.formula ≡ false
@@ -66,6 +69,8 @@ pub record StandsOver (o : Origin) (s : PortState) : Type 0 where
   pub waiting : All (λ h. (book o.formula (journal_of o s)).clause h.number ≡ Some h.lits) s.waiting
   pub numbers : (h k : Holding) → Keeps s h → Keeps s k → h.number ≡ k.number → h ≡ k
   pub seen : All (λ l. is_told o.formula (journal_of o s) l ≡ true) s.seen
+  pub told : s.hinted ≡ true → All (λ u. (book o.formula (journal_of o s)).clause u.1 ≡ Some (u.0 ∷ [])) s.told
+  pub hints : s.hinted ≡ true → EachAfter (IsHinted o.formula) o.journal s.mine
   pub output : IsSomeAnd s.output (HasLines o s)
 
 -- whatever a port stands over, it still does

@@ -34,9 +34,9 @@ noted refused line_stop.ProofFault = Some (stop_of line_stop.ProofFault)
 noted refused line_stop.Full = Some (stop_of line_stop.Full)
 noted refused line_stop.Memory = refused
 
--- ring 0 adds the clause
-abbrev pub own_entry : ℕ → List Literal → Kind → Entry
-own_entry number lits kind = Add (record { ring = 0; number = number; lits = lits; kind = kind; hints = [] })
+-- ring 0 adds the clause, with hints
+abbrev pub own_entry : ℕ → List Literal → Kind → List ℕ → Entry
+own_entry number lits kind hints = Add (record { ring = 0; number = number; lits = lits; kind = kind; hints = hints })
 
 -- the output failed at the line
 pub record FaultyLine (old new : LogData) (x : NumberedLine) : Type 0 where
@@ -60,17 +60,17 @@ NotPut old new x ProofFault = FaultyLine old new x
 NotPut old new x (NoHole lack) = FullLog old new lack
 NotPut old new x Memory = new ≡ old
 
--- the line that adds the clause stands, and its entry
-pub record AddedEntry (old new : LogData) (lits : List Literal) (kind : Kind) (number : ℕ) : Type 0 where
+-- the line that adds the clause stands, and its entry, both with the hints
+pub record AddedEntry (old new : LogData) (lits : List Literal) (kind : Kind) (hints : List ℕ) (number : ℕ) : Type 0 where
   pub going : old.ended ≡ false
   pub given : number ≡ old.output.last + 1
-  pub put : PutLine old.output new.output (added_line old.output lits [])
-  pub state : new ≡ record old { output = new.output; mine = old.mine ++ own_entry number lits kind ∷ []; room = new.room }
+  pub put : PutLine old.output new.output (added_line old.output lits hints)
+  pub state : new ≡ record old { output = new.output; mine = old.mine ++ own_entry number lits kind hints ∷ []; room = new.room }
 
 -- what the addition of a clause did
-abbrev pub WasAdded : LogData → LogData → List Literal → Kind → Result ℕ PortStop → Type 0
-WasAdded old new lits kind (Ok number) = AddedEntry old new lits kind number
-WasAdded old new lits kind (Err stop) = NotPut old new (added_line old.output lits []) stop
+abbrev pub WasAdded : LogData → LogData → List Literal → Kind → List ℕ → Result ℕ PortStop → Type 0
+WasAdded old new lits kind hints (Ok number) = AddedEntry old new lits kind hints number
+WasAdded old new lits kind hints (Err stop) = NotPut old new (added_line old.output lits hints) stop
 
 -- the line that deletes the clause stands, and its entry
 pub record DeletedEntry (old new : LogData) (lits : List Literal) (number : ℕ) : Type 0 where

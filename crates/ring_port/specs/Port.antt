@@ -5,6 +5,7 @@ use Rattle.sat_words.specs.Literal.{Literal, same}
 use Rattle.sat_words.specs.Clause.{has, includes, distinct_lits, has_opposites}
 use Rattle.sat_words.specs.declared.shared.Cref.{Cref}
 use Rattle.sat_words.specs.declared.shared.Stop.{Stop}
+use Rattle.rup_model.specs.Hints.{numbered, HintsFit}
 use Rattle.rup_model.specs.Journal.{fresh}
 use Rattle.rup_model.specs.declared.journal.Kind.{Kind}
 use Rattle.rup_model.specs.declared.journal.Kind.TheVariants.{Ruler, Learn, Derive, UnitLine}
@@ -15,7 +16,7 @@ use Rattle.ring_port.specs.declared.stops.PortStop.TheVariants.{Ended, Broken, P
 use Rattle.sat_words.specs.declared.shared.Set.{Set}
 use Rattle.sat_words.specs.declared.shared.Set.TheVariants.{Won, Lost}
 use Rattle.drat_text.specs.LineState.{LineState}
-use Rattle.ring_port.specs.PortState.{Holding, PortState, IsOn, held_at, lits_at, one_more}
+use Rattle.ring_port.specs.PortState.{Holding, PortState, IsOn, held_at, known_at, lits_at, one_more}
 
 -- What the calls ask for
 
@@ -48,6 +49,12 @@ pub record IsFreshClause (s : PortState) (c : List Literal) : Type 0 where
   pub own : fresh (start_lits s) s.mine s.ring c ≡ true
   pub others : All (λ a. includes c (lits_at s a) ≡ false) s.taken
 
+-- Hints
+
+-- hints show that the clause follows from what the port knows, if the log has hints; else there are none
+abbrev pub AreHints : PortState → List Literal → List ℕ → Type 0
+AreHints s c hints = HintsFit s.hinted (numbered (known_at s)) c hints
+
 -- Refusals
 
 -- the port after an answer that refuses, and its output after a fault: the answer is noted, and that the log is ended if
@@ -76,8 +83,12 @@ pub record Refused (old new : PortState) (stop : PortStop) : Type 0 where
 -- Lines
 
 -- the ring's entry that adds the clause
-abbrev pub entry_of : PortState → ℕ → List Literal → Kind → Entry
-entry_of s number lits kind = Add (record { ring = s.ring; number = number; lits = lits; kind = kind; hints = [] })
+abbrev pub entry_of : PortState → ℕ → List Literal → Kind → List ℕ → Entry
+entry_of s number lits kind hints = Add (record { ring = s.ring; number = number; lits = lits; kind = kind; hints = hints })
+
+-- the ring's last entry adds a clause with these hints
+abbrev pub EndsWith : PortState → List ℕ → Type 0
+EndsWith s hints = (before : List Entry) × (number : ℕ) × (lits : List Literal) × (kind : Kind) × (s.mine ≡ before ++ entry_of s number lits kind hints ∷ [])
 
 -- no clause is held at the address, or waits there
 pub record IsFreeAddress (s : PortState) (a : ℕ) : Type 0 where
@@ -110,13 +121,14 @@ ticket_after UnitLine ticket = ticket
 -- line; what was learned is the one learned last, and uses the ticket up
 pub record AddedClause (old new : PortState) (lits : List Literal) (glue : ℕ) (kind : Kind) (c : Cref) : Type 0 where
   pub number : ℕ
+  pub hints : List ℕ
   pub going : old.ended ≡ false
   pub long : 2 ≤ length lits
   pub free : IsFreeAddress old c.address
   pub there : held_at new c.address ≡ Some (holding_of c number glue lits)
   pub state : new ≡ record old {
     held = old.held ++ holding_of c number glue lits ∷ [];
-    mine = old.mine ++ entry_of old number lits kind ∷ [];
+    mine = old.mine ++ entry_of old number lits kind hints ∷ [];
     last = last_after kind old.last c.address;
     ticket = ticket_after kind old.ticket;
     output = new.output;
@@ -130,14 +142,16 @@ LearnedClause old new lits glue c = AddedClause old new lits glue Learn c
 -- still be offered, or not; units that others listed meanwhile may be kept
 pub record WroteUnit (old new : PortState) (l : Literal) (kind : Kind) (last : Option ℕ) : Type 0 where
   pub number : ℕ
+  pub hints : List ℕ
   pub going : old.ended ≡ false
   pub sees : Sees old.seen new.seen l
   pub looked : old.caught_up ≤ new.caught_up
   pub state : new ≡ record old {
     seen = new.seen;
+    told = new.told;
     kept = new.kept;
     caught_up = new.caught_up;
-    mine = old.mine ++ entry_of old number (l ∷ []) kind ∷ [];
+    mine = old.mine ++ entry_of old number (l ∷ []) kind hints ∷ [];
     last = last;
     ticket = ticket_after kind old.ticket;
     output = new.output;
@@ -187,9 +201,10 @@ UnitWritten old new l (Err stop) = Refused old new stop
 -- the empty clause was added, and the log is ended
 pub record EndedLog (old new : PortState) : Type 0 where
   pub number : ℕ
+  pub hints : List ℕ
   pub going : old.ended ≡ false
   pub state : new ≡ record old {
-    mine = old.mine ++ entry_of old number [] Derive ∷ [];
+    mine = old.mine ++ entry_of old number [] Derive hints ∷ [];
     ended = true;
     output = new.output;
   }
@@ -206,7 +221,7 @@ pub record TookUnit (old new : PortState) (l : Literal) : Type 0 where
   pub fresh : has old.seen l ≡ false
   pub sees : Sees old.seen new.seen l
   pub fewer : new.coming < old.coming
-  pub state : new ≡ record old { seen = new.seen; given = old.given ++ l ∷ []; coming = new.coming; kept = old.kept - 1 }
+  pub state : new ≡ record old { seen = new.seen; told = new.told; given = old.given ++ l ∷ []; coming = new.coming; kept = old.kept - 1 }
 
 -- none is left: none was kept, a look found that no other is listed, and every unit of the opening is seen
 pub record TookNone (old new : PortState) : Type 0 where

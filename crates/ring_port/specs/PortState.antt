@@ -8,6 +8,7 @@ use Rattle.sat_words.specs.declared.shared.Head.{Head}
 use Rattle.sat_words.specs.declared.shared.Stop.{Stop}
 use Rattle.rup_model.specs.declared.journal.Entry.{Entry}
 use Rattle.sat_words.specs.declared.shared.TheConstants.{STOP_SAT, STOP_MEMORY}
+use Rattle.rup_model.specs.Hints.{numbered}
 use Rattle.rup_model.specs.Opening.{IsLong}
 use Rattle.drat_text.specs.LineState.{LineState}
 use Rattle.ring_port.specs.declared.stops.PortStop.{PortStop}
@@ -41,6 +42,8 @@ pub record PortState : Type 0 where
   pub waiting : List Holding
   -- the units that `next_unit` gave or the port wrote
   pub seen : List Literal
+  -- in a log with hints, the units that the port knows, those seen among them, each with the number of its clause
+  pub told : List (Literal × ℕ)
   -- those that `next_unit` gave, in order
   pub given : List Literal
   -- how many units `next_unit` may yet give
@@ -91,6 +94,8 @@ pub record PortState : Type 0 where
   pub refused : Option PortStop
   -- the empty clause stands in the log
   pub ended : Bool
+  -- additions to the log have hints
+  pub hinted : Bool
   -- its line output, if the port has one of its own
   pub output : Option LineState
   -- the name of what the port stands on, if rings share something
@@ -126,6 +131,10 @@ head_of h = record { size = length h.lits; glue = h.glue; number = h.number }
 unfoldable pub known : PortState → List (List Literal)
 known s = map (λ h. h.lits) s.held ++ map (λ l. l ∷ []) s.seen
 
+-- the clauses that hints may name: those held and the units, each with its number
+abbrev pub known_at : PortState → List (ℕ × List Literal)
+known_at s = map (λ h. (h.number, h.lits)) s.held ++ map (λ u. (u.1, u.0 ∷ [])) s.told
+
 -- What is kept of every port
 
 -- two literals or more without repeats or opposites, on the variables
@@ -144,9 +153,16 @@ abbrev pub AreApart : List Holding → Type 0
 AreApart [] = ⊤
 AreApart (h ∷ hs) = All (λ k. k.address ≢ h.address) hs × AreApart hs
 
+-- each number names the one clause that has it, and each unit that is seen has a number
+pub record AreNumbered (s : PortState) : Type 0 where
+  pub held : All (λ h. numbered (known_at s) h.number ≡ Some h.lits) s.held
+  pub told : All (λ u. numbered (known_at s) u.1 ≡ Some (u.0 ∷ [])) s.told
+  pub seen : All (λ l. (n : ℕ) × Contains s.told (l, n)) s.seen
+
 -- each clause held or waiting is long and on the variables; an address has one clause, however often it is held, and none
 -- is both held and waiting, or waits twice; what was taken is held, and what was given is seen; start clauses and units are on the
--- variables; the stop is one of the rings'; each two rings have a slot for each class; the number of tickets fits into 64 bits
+-- variables; the stop is one of the rings'; each two rings have a slot for each class; the number of tickets fits into 64 bits; if the log
+-- has hints, clauses can be named by their numbers
 pub record IsPort (s : PortState) : Type 0 where
   pub held : All (IsKept s.vars) s.held
   pub one : (h k : Holding) → Contains s.held h → Contains s.held k → h.address ≡ k.address → h ≡ k
@@ -162,6 +178,7 @@ pub record IsPort (s : PortState) : Type 0 where
   pub ring : s.ring < s.rings
   pub deep : 1 ≤ s.depth
   pub few : s.limit < 2 ^ 64
+  pub named : s.hinted ≡ true → AreNumbered s
 
 -- The opening
 

@@ -7,6 +7,7 @@ ghost use Rattle.rup_model.specs.Basics.{EachAfter};
 ghost use Rattle.rup_model.specs.declared.journal.Kind.{Kind};
 ghost use Rattle.rup_model.specs.Opening.{Opening, IsLong, IsNew};
 ghost use Rattle.rup_model.specs.Log.{Accepted, Refutes};
+ghost use Rattle.rup_model.specs.NumberedLines.{IsHinted};
 ghost use Rattle.rup_model.specs.Journal.{lines, learned, recent, IsSpaced};
 ghost use Rattle.ring_port.specs.Log.{Origin, StandsOver, journal_of};
 ghost use Rattle.ring_port.specs.Port.{AddedClause};
@@ -31,9 +32,10 @@ pub fn held_clauses_are_long()
 {}
 
 /// Each line of the journal of a port that writes alone is valid where it stands; once the log is ended it refutes
-/// the formula.
+/// the formula. In a log with hints those of each addition of the ring show that it follows from what is alive before it.
 pub fn a_log_is_accepted()
     ensures accepted { (o : Origin) (s : PortState) → StandsOver o s → Accepted o.formula (lines o.formula (journal_of o s)) }
+    ensures hinted { (o : Origin) (s : PortState) → StandsOver o s → s.hinted ≡ true → EachAfter (IsHinted o.formula) o.journal s.mine }
     ensures refutes { (o : Origin) (s : PortState) → StandsOver o s → s.ended ≡ true → Refutes o.formula (lines o.formula (journal_of o s)) }
 {}
 

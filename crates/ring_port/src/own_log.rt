@@ -111,23 +111,29 @@ impl<L: LineOut> OwnLog<L> {
         false
     }
 
-    /// Puts the line that adds the literals, and its entry, for which room was made, unless the log is ended. Answers its number.
-    pub(crate) fn add(&mut self, alloc: Global, lits: Lits, kind: Kind) -> Result<u64, PortStop>
+    /// Puts the line that adds the literals, and its entry, for which room was made, unless the log is ended. Both have the hints.
+    /// Answers its number.
+    pub(crate) fn add(
+        &mut self,
+        lits: Lits,
+        kind: Kind,
+        hints: ClauseNumbers,
+    ) -> Result<u64, PortStop>
         requires usable { is_usable self.old.refused ≡ true }
         requires room { 1 ≤ self.old.room }
-        ensures { WasAdded self.old self.new lits kind result }
+        ensures { WasAdded self.old self.new lits kind hints result }
     {
         if self.is_over() {
             return Err(PortStop::Ended);
         }
-        match self.output.add(lits.as_slice(), &[]) {
+        match self.output.add(lits.as_slice(), hints.as_slice()) {
             Ok(number) => {
                 self.mine.push_reserved(Entry::Add(Addition {
                     ring: RING,
                     number,
                     lits,
                     kind,
-                    hints: ClauseNumbers::none(alloc),
+                    hints,
                 }));
                 Ok(number)
             }

@@ -1,11 +1,11 @@
 // The port in memory, which the program never runs: tests search over it, with every byte known to contracts.
-ghost use Rattle.std.specs.Prelude.{◌≡◌, ◌+◌, ◌<◌, ◌≤◌, ◌∷◌, ◌⊎◌, [], true, Some, None, IfErr, IfSome, IsSome, length, slice_get};
+ghost use Rattle.std.specs.Prelude.{◌≡◌, ◌+◌, ◌<◌, ◌≤◌, ◌∷◌, ◌⊎◌, [], true, Some, None, IfErr, IfSome, IsSome, OnOk, length, slice_get};
 ghost use Rattle.sat_words.specs.Clause.{has};
 ghost use Rattle.sat_words.specs.declared.shared.TheConstants.{STOP_SAT, STOP_MEMORY};
 ghost use Rattle.rup_model.specs.Rup.{rup};
 ghost use Rattle.ring_port.specs.PortState.{IsPort, IsOn, held_at, lits_at, head_of, known, one_more};
 ghost use Rattle.ring_port.specs.Log.{KeepsLog};
-ghost use Rattle.ring_port.specs.Port.{is_usable, IsClause, Learned, Derived, KeepsHeld, UnitWritten, EmptyWritten, Took, Looked, SetStop};
+ghost use Rattle.ring_port.specs.Port.{is_usable, IsClause, AreHints, EndsWith, Learned, Derived, KeepsHeld, UnitWritten, EmptyWritten, Took, Looked, SetStop};
 ghost use Rattle.ring_port.specs.Reducing.{Noted};
 ghost use Rattle.ring_port.specs.Drawing.{HasDrawn};
 ghost use Rattle.ring_port.specs.Deleting.{Dropped, Tidied};
@@ -13,13 +13,13 @@ ghost use Rattle.ring_port.specs.Exchange.{class_at, other_rings, OfferedAs};
 ghost use Rattle.ring_port.specs.PlainPort.{HasCauseAlone, HasTidyCause};
 
 use crate::draw::Drawn;
-use crate::opening_units::first_new_from;
+use crate::opening_units::{first_new_from, number_of};
 use crate::plain_lines::unless_at;
 use crate::plain_port::PlainPort;
 use crate::port::Port;
 use crate::stops::PortStop;
 use drat_text::LineOut;
-use rup_model::Kind;
+use rup_model::{ClauseNumbers, Kind};
 use sat_words::{Cref, Head, Lit, Lits, Set, Stop};
 
 impl<L: LineOut> Port for PlainPort<L> {
@@ -33,6 +33,14 @@ impl<L: LineOut> Port for PlainPort<L> {
     fn depth(&self) -> u32 {
         let _looks = self.looks;
         1
+    }
+
+    fn has_hints(&self) -> bool {
+        self.hinted
+    }
+
+    fn unit_number(&self, lit: Lit) -> Option<u64> {
+        number_of(&self.told, lit)
     }
 
     fn head(&mut self, c: Cref) -> Head
@@ -59,12 +67,14 @@ impl<L: LineOut> Port for PlainPort<L> {
         self.store.lit(c, i)
     }
 
-    fn learn(&mut self, lits: &[Lit], glue: u32) -> Result<Option<Cref>, PortStop>
+    fn learn(&mut self, lits: &[Lit], glue: u32, hints: &[u64]) -> Result<Option<Cref>, PortStop>
         requires ticket { self.old.state.ticket ≡ true }
         requires usable { is_usable self.old.state.refused ≡ true }
         requires some { 1 ≤ length lits.now }
         requires clause { IsClause self.old.state.vars lits.now }
         requires rup { rup (known self.old.state) lits.now ≡ true }
+        requires hints { AreHints self.old.state lits.now hints.now }
+        ensures hints { OnOk result (EndsWith self.new.state hints.now) }
         ensures cause { HasCauseAlone self.old.state self.new.state result }
         ensures learned { Learned self.old.state self.new.state lits.now glue result }
         ensures kept { KeepsHeld self.old.state self.new.state }
@@ -74,10 +84,10 @@ impl<L: LineOut> Port for PlainPort<L> {
     {
         match lits {
             [lit] => {
-                self.put_unit(*lit, Kind::Learn, None)?;
+                self.put_unit(*lit, Kind::Learn, None, hints)?;
                 Ok(None)
             }
-            _ => Ok(Some(self.put_clause(lits, glue, Kind::Learn)?)),
+            _ => Ok(Some(self.put_clause(lits, glue, Kind::Learn, hints)?)),
         }
     }
 
@@ -92,11 +102,13 @@ impl<L: LineOut> Port for PlainPort<L> {
         self.tickets.draw()
     }
 
-    fn derive(&mut self, lits: &[Lit], glue: u32) -> Result<Cref, PortStop>
+    fn derive(&mut self, lits: &[Lit], glue: u32, hints: &[u64]) -> Result<Cref, PortStop>
         requires usable { is_usable self.old.state.refused ≡ true }
         requires long { 2 ≤ length lits.now }
         requires clause { IsClause self.old.state.vars lits.now }
         requires rup { rup (known self.old.state) lits.now ≡ true }
+        requires hints { AreHints self.old.state lits.now hints.now }
+        ensures hints { OnOk result (EndsWith self.new.state hints.now) }
         ensures cause { HasCauseAlone self.old.state self.new.state result }
         ensures derived { Derived self.old.state self.new.state lits.now glue result }
         ensures kept { KeepsHeld self.old.state self.new.state }
@@ -104,13 +116,15 @@ impl<L: LineOut> Port for PlainPort<L> {
         ensures port { IsPort self.new.state }
         ensures loads { self.new.loads ≡ self.old.loads }
     {
-        self.put_clause(lits, glue, Kind::Derive)
+        self.put_clause(lits, glue, Kind::Derive, hints)
     }
 
-    fn unit(&mut self, lit: Lit) -> Result<(), PortStop>
+    fn unit(&mut self, lit: Lit, hints: &[u64]) -> Result<(), PortStop>
         requires usable { is_usable self.old.state.refused ≡ true }
         requires on { IsOn self.old.state.vars lit }
         requires rup { rup (known self.old.state) (lit ∷ []) ≡ true }
+        requires hints { AreHints self.old.state (lit ∷ []) hints.now }
+        ensures hints { OnOk result (EndsWith self.new.state hints.now) }
         ensures cause { HasCauseAlone self.old.state self.new.state result }
         ensures written { UnitWritten self.old.state self.new.state lit result }
         ensures log { KeepsLog self.old.state self.new.state }
@@ -118,12 +132,14 @@ impl<L: LineOut> Port for PlainPort<L> {
         ensures loads { self.new.loads ≡ self.old.loads }
     {
         let last = self.last;
-        self.put_unit(lit, Kind::UnitLine, last)
+        self.put_unit(lit, Kind::UnitLine, last, hints)
     }
 
-    fn empty(&mut self) -> Result<(), PortStop>
+    fn empty(&mut self, hints: &[u64]) -> Result<(), PortStop>
         requires usable { is_usable self.old.state.refused ≡ true }
         requires rup { rup (known self.old.state) [] ≡ true }
+        requires hints { AreHints self.old.state [] hints.now }
+        ensures hints { OnOk result (EndsWith self.new.state hints.now) }
         ensures cause { HasCauseAlone self.old.state self.new.state result }
         ensures written { EmptyWritten self.old.state self.new.state result }
         ensures log { KeepsLog self.old.state self.new.state }
@@ -132,7 +148,10 @@ impl<L: LineOut> Port for PlainPort<L> {
     {
         self.log.make_room()?;
         let none = Lits::from_vec(Vec::new(self.alloc));
-        self.log.add(self.alloc, none, Kind::Derive)?;
+        let Ok(copy) = ClauseNumbers::from_slice(self.alloc, hints) else {
+            return Err(PortStop::Memory);
+        };
+        self.log.add(none, Kind::Derive, copy)?;
         self.log.end();
         Ok(())
     }

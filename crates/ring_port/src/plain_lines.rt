@@ -1,17 +1,18 @@
 // The port in memory, which the program never runs: tests search over it, with every byte known to contracts.
-ghost use Rattle.std.specs.Prelude.{◌≡◌, ◌≤◌, ◌∷◌, [], true, Some, length};
+ghost use Rattle.std.specs.Prelude.{◌≡◌, ◌≤◌, ◌∷◌, [], true, Some, OnOk, length};
 ghost use Rattle.std.specs.Option.{option_map};
 ghost use Rattle.rup_model.specs.Rup.{rup};
 ghost use Rattle.ring_port.specs.PortState.{IsPort, IsOn, known};
 ghost use Rattle.ring_port.specs.Log.{KeepsLog};
-ghost use Rattle.ring_port.specs.Port.{is_usable, IsClause, KeepsHeld, UnitPut, ClausePut, last_after};
+ghost use Rattle.ring_port.specs.Port.{is_usable, IsClause, AreHints, EndsWith, KeepsHeld, UnitPut, ClausePut, last_after};
 ghost use Rattle.ring_port.specs.Deleting.{TidiedFirst, unless_at};
 ghost use Rattle.ring_port.specs.PlainPort.{HasCauseAlone};
 
+use crate::opening_units::{make_unit_room, note_told};
 use crate::plain_port::PlainPort;
 use crate::stops::PortStop;
 use drat_text::LineOut;
-use rup_model::Kind;
+use rup_model::{ClauseNumbers, Kind};
 use sat_words::{Cref, Lit, Lits};
 
 /// The clause learned last, once one was added.
@@ -41,10 +42,13 @@ impl<L: LineOut> PlainPort<L> {
         lit: Lit,
         kind: Kind,
         last: Option<Cref>,
+        hints: &[u64],
     ) -> Result<(), PortStop>
         requires usable { is_usable self.old.state.refused ≡ true }
         requires on { IsOn self.old.state.vars lit }
         requires rup { rup (known self.old.state) (lit ∷ []) ≡ true }
+        requires hints { AreHints self.old.state (lit ∷ []) hints.now }
+        ensures hints { OnOk result (EndsWith self.new.state hints.now) }
         ensures cause { HasCauseAlone self.old.state self.new.state result }
         ensures put { UnitPut self.old.state self.new.state lit kind (option_map (λ c. c.address) last) result }
         ensures log { KeepsLog self.old.state self.new.state }
@@ -52,14 +56,16 @@ impl<L: LineOut> PlainPort<L> {
         ensures loads { self.new.loads ≡ self.old.loads }
     {
         self.log.make_room()?;
-        if self.written.reserve(1).is_err() {
-            return Err(PortStop::Memory);
-        }
+        make_unit_room(&mut self.written, &mut self.told)?;
         let Ok(lits) = Lits::from_slice(self.alloc, &[lit]) else {
             return Err(PortStop::Memory);
         };
-        self.log.add(self.alloc, lits, kind)?;
+        let Ok(copy) = ClauseNumbers::from_slice(self.alloc, hints) else {
+            return Err(PortStop::Memory);
+        };
+        let number = self.log.add(lits, kind, copy)?;
         self.written.push_reserved(lit);
+        note_told(&mut self.told, self.hinted, lit, number);
         self.last = last;
         self.tickets.use_for(kind);
         Ok(())
@@ -100,11 +106,14 @@ impl<L: LineOut> PlainPort<L> {
         lits: &[Lit],
         glue: u32,
         kind: Kind,
+        hints: &[u64],
     ) -> Result<Cref, PortStop>
         requires usable { is_usable self.old.state.refused ≡ true }
         requires long { 2 ≤ length lits.now }
         requires clause { IsClause self.old.state.vars lits.now }
         requires rup { rup (known self.old.state) lits.now ≡ true }
+        requires hints { AreHints self.old.state lits.now hints.now }
+        ensures hints { OnOk result (EndsWith self.new.state hints.now) }
         ensures cause { HasCauseAlone self.old.state self.new.state result }
         ensures put { ClausePut self.old.state self.new.state lits.now glue kind result }
         ensures kept { KeepsHeld self.old.state self.new.state }
@@ -117,7 +126,10 @@ impl<L: LineOut> PlainPort<L> {
         let Ok(copy) = Lits::from_slice(self.alloc, lits) else {
             return Err(PortStop::Memory);
         };
-        let number = self.log.add(self.alloc, copy, kind)?;
+        let Ok(numbers) = ClauseNumbers::from_slice(self.alloc, hints) else {
+            return Err(PortStop::Memory);
+        };
+        let number = self.log.add(copy, kind, numbers)?;
         let c = self.store.push(lits, number, glue);
         let last = last_after(kind, self.last, c);
         self.last = last;

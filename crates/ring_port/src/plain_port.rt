@@ -6,9 +6,10 @@ ghost use Rattle.std.specs.List.{list_any};
 ghost use Rattle.rup_model.specs.declared.journal.Entry.{Entry};
 ghost use Rattle.ring_port.specs.PortState.{Holding, IsPort, IsOn, HoldsStart};
 ghost use Rattle.ring_port.specs.Log.{StandsOver};
-ghost use Rattle.ring_port.specs.PlainPort.{OpensOver, CanOpen, starts_of, begun_with};
+ghost use Rattle.ring_port.specs.PlainPort.{OpensOver, CanOpen, starts_of, unit_lits, begun_with};
 
 use crate::draw::Tickets;
+use crate::opening_units::{told_in, unit_lits};
 use crate::own_log::OwnLog;
 use crate::starts::Starts;
 use crate::store::Store;
@@ -27,6 +28,10 @@ pub struct PlainPort<L: LineOut> {
     pub(crate) passed: usize,
     pub(crate) given: Vec<Lit>,
     pub(crate) written: Vec<Lit>,
+    /// Additions have hints.
+    pub(crate) hinted: bool,
+    /// The units of the opening and those written, with the numbers of their clauses, if additions have hints; else none.
+    pub(crate) told: Vec<(Lit, u64)>,
     pub(crate) log: OwnLog<L>,
     pub(crate) last: Option<Cref>,
     pub(crate) tickets: Tickets,
@@ -54,6 +59,8 @@ impl<L: LineOut> Model for PlainPort<L> {
         given = p.given.items;
         given_room = vec_capacity p.given - vec_len p.given;
         written = p.written.items;
+        hinted = p.hinted;
+        told = p.told.items;
         log = p.log;
         last = p.last;
         tickets = p.tickets;
@@ -73,6 +80,8 @@ impl<L: LineOut> Model for PlainPort<L> {
       given = p.given.items;
       given_room = vec_capacity p.given - vec_len p.given;
       written = p.written.items;
+      hinted = p.hinted;
+      told = p.told.items;
       log = p.log;
       last = p.last;
       tickets = p.tickets;
@@ -85,20 +94,21 @@ impl<L: LineOut> Model for PlainPort<L> {
 impl<L: LineOut> PlainPort<L> {
     /// The port of ring 0, of one ring, that holds the start clauses, each under its number, with glue 0, one
     /// after the other. Each has two literals or more and is alive in the log; the units are listed, and have no
-    /// line of the ring's. The log is continued where the line output stands. So many lemmas may be learned, each with a
+    /// line of the ring's. In a log with hints each unit has the number of its clause; in other logs the numbers tell
+    /// nothing. The log is continued where the line output stands. So many lemmas may be learned, each with a
     /// ticket. Refused for memory it gives the line output back.
     pub fn new(
         alloc: Global,
         vars: u32,
         starts: Starts,
-        units: Vec<Lit>,
+        units: Vec<(Lit, u64)>,
         output: L,
         limit: u64,
     ) -> Result<PlainPort<L>, AllocFailed<L>>
         requires opening { CanOpen (starts_of starts) units.items (L.told output) }
         requires unspent { (L.told output).spent ≡ false }
         requires starts_on { All (λ s. All (IsOn vars) s.1) starts }
-        requires units_on { All (IsOn vars) units.items }
+        requires units_on { All (IsOn vars) (unit_lits units.items) }
         ensures made { IfOk result (λ port. port.state ≡ begun_with vars starts units.items (L.told output) limit) }
         ensures stands { IfOk result (λ port. (F : List (List Literal)) (J : List Entry) → OpensOver F (starts_of starts) units.items (L.told output) J → list_any is_empty F ≡ false → StandsOver (record { formula = F; journal = J; output = L.told output }) port.state) }
         ensures holds { IfOk result (λ port. HoldsStart port.state) }
@@ -106,18 +116,25 @@ impl<L: LineOut> PlainPort<L> {
         ensures loads { IfOk result (λ port. port.loads ≡ 0) }
         ensures back { IfErr result (λ refused. refused.value ≡ output) }
     {
-        let Ok(given) = Vec::with_capacity(alloc, units.len()) else {
+        let Ok(opening) = unit_lits(alloc, &units) else {
             return Err(AllocFailed { value: output });
         };
+        let Ok(given) = Vec::with_capacity(alloc, opening.len()) else {
+            return Err(AllocFailed { value: output });
+        };
+        let hinted = output.format().has_hints();
+        let told = told_in(alloc, hinted, units);
         let Starts { store } = starts;
         Ok(PlainPort {
             alloc,
             vars,
             store,
-            opening: units,
+            opening,
             passed: 0,
             given,
             written: Vec::new(alloc),
+            hinted,
+            told,
             log: OwnLog::new(alloc, output),
             last: None,
             tickets: Tickets::new(limit),

@@ -1,11 +1,11 @@
-ghost use Rattle.std.specs.Prelude.{◌≡◌, ◌≢◌, ◌<◌, ◌≤◌, ◌∷◌, [], true, false, All, Some, IfSome, IsSome, length, slice_get};
+ghost use Rattle.std.specs.Prelude.{◌≡◌, ◌≢◌, ◌<◌, ◌≤◌, ◌∷◌, [], true, false, All, Some, IfSome, IsSome, OnOk, MatchOption, Contains, length, slice_get, ℕ};
 ghost use Rattle.sat_words.specs.Literal.{Literal};
 ghost use Rattle.sat_words.specs.Values.{first_open};
 ghost use Rattle.sat_words.specs.declared.shared.TheConstants.{STOP_SAT, STOP_REFUTED, STOP_MEMORY};
 ghost use Rattle.rup_model.specs.Rup.{rup};
 ghost use Rattle.ring_port.specs.PortState.{PortState, IsPort, IsOn, held_at, lits_at, head_of, known};
 ghost use Rattle.ring_port.specs.Log.{KeepsLog};
-ghost use Rattle.ring_port.specs.Port.{is_usable, IsClause, IsFreshClause, Learned, IsPartOfHeld, Derived, KeepsHeld, UnitWritten, EmptyWritten, Took, Looked, SetStop};
+ghost use Rattle.ring_port.specs.Port.{is_usable, IsClause, IsFreshClause, AreHints, EndsWith, Learned, IsPartOfHeld, Derived, KeepsHeld, UnitWritten, EmptyWritten, Took, Looked, SetStop};
 ghost use Rattle.ring_port.specs.Drawing.{HasDrawn};
 ghost use Rattle.ring_port.specs.Deleting.{IsNotTaken, Dropped, Tidied};
 ghost use Rattle.ring_port.specs.Reducing.{MayReduce, Noted};
@@ -35,6 +35,17 @@ pub trait Port {
     /// so that a ring keeps no copy of it.
     fn depth(&self) -> u32
         ensures value { result ≡ (state self.now).depth }
+        ensures port { IsPort (state self.now) };
+
+    /// Whether additions to the log have hints, which no call changes.
+    fn has_hints(&self) -> bool
+        ensures value { result ≡ (state self.now).hinted }
+        ensures port { IsPort (state self.now) };
+
+    /// The number of a unit's clause; none exactly if the port knows no number of it. A unit that is seen has one.
+    fn unit_number(&self, lit: Lit) -> Option<u64>
+        requires hinted { (state self.now).hinted ≡ true }
+        ensures told { MatchOption result ((n : ℕ) → Contains (state self.now).told (lit, n) → ⊥) (λ n. Contains (state self.now).told (lit, n)) }
         ensures port { IsPort (state self.now) };
 
     /// The size, the glue and the number of a clause that is held.
@@ -97,45 +108,54 @@ pub trait Port {
     /// Learns a clause that was found at a conflict: its line is written, and it is held from then on with its literals
     /// in this order. The glue is that of `Head`. Of one literal it is a unit, which has no address and is seen. The clause
     /// contains none that the ring started with, learned or took since it last reduced. It uses the ticket in hand up,
-    /// unless it is refused.
-    fn learn(&mut self, lits: &[Lit], glue: u32) -> Result<Option<Cref>, PortStop>
+    /// unless it is refused. Hints show that it follows, if the log has any; else none are given.
+    fn learn(&mut self, lits: &[Lit], glue: u32, hints: &[u64]) -> Result<Option<Cref>, PortStop>
         requires ticket { (state self.old).ticket ≡ true }
         requires usable { is_usable (state self.old).refused ≡ true }
         requires some { 1 ≤ length lits.now }
         requires clause { IsClause (state self.old).vars lits.now }
         requires rup { rup (known (state self.old)) lits.now ≡ true }
         requires fresh { IsFreshClause (state self.old) lits.now }
+        requires hints { AreHints (state self.old) lits.now hints.now }
+        ensures hints { OnOk result (EndsWith (state self.new) hints.now) }
         ensures learned { Learned (state self.old) (state self.new) lits.now glue result }
         ensures kept { KeepsHeld (state self.old) (state self.new) }
         ensures log { KeepsLog (state self.old) (state self.new) }
         ensures port { IsPort (state self.new) };
 
     /// Derives a clause that is a part of one that is held: its line is written, and it is held from then on with its
-    /// literals in this order. It counts as none that was learned.
-    fn derive(&mut self, lits: &[Lit], glue: u32) -> Result<Cref, PortStop>
+    /// literals in this order. It counts as none that was learned. Hints as for a clause that is learned.
+    fn derive(&mut self, lits: &[Lit], glue: u32, hints: &[u64]) -> Result<Cref, PortStop>
         requires usable { is_usable (state self.old).refused ≡ true }
         requires long { 2 ≤ length lits.now }
         requires clause { IsClause (state self.old).vars lits.now }
         requires rup { rup (known (state self.old)) lits.now ≡ true }
         requires part { IsPartOfHeld (state self.old) lits.now }
+        requires hints { AreHints (state self.old) lits.now hints.now }
+        ensures hints { OnOk result (EndsWith (state self.new) hints.now) }
         ensures derived { Derived (state self.old) (state self.new) lits.now glue result }
         ensures kept { KeepsHeld (state self.old) (state self.new) }
         ensures log { KeepsLog (state self.old) (state self.new) }
         ensures port { IsPort (state self.new) };
 
-    /// Writes the line of a literal that propagation made true for good, and lists it for the other rings.
-    fn unit(&mut self, lit: Lit) -> Result<(), PortStop>
+    /// Writes the line of a literal that propagation made true for good, and lists it for the other rings. Hints as for a
+    /// clause that is learned.
+    fn unit(&mut self, lit: Lit, hints: &[u64]) -> Result<(), PortStop>
         requires usable { is_usable (state self.old).refused ≡ true }
         requires on { IsOn (state self.old).vars lit }
         requires rup { rup (known (state self.old)) (lit ∷ []) ≡ true }
+        requires hints { AreHints (state self.old) (lit ∷ []) hints.now }
+        ensures hints { OnOk result (EndsWith (state self.new) hints.now) }
         ensures written { UnitWritten (state self.old) (state self.new) lit result }
         ensures log { KeepsLog (state self.old) (state self.new) }
         ensures port { IsPort (state self.new) };
 
-    /// Writes the empty clause, which ends the log.
-    fn empty(&mut self) -> Result<(), PortStop>
+    /// Writes the empty clause, which ends the log. Hints as for a clause that is learned.
+    fn empty(&mut self, hints: &[u64]) -> Result<(), PortStop>
         requires usable { is_usable (state self.old).refused ≡ true }
         requires rup { rup (known (state self.old)) [] ≡ true }
+        requires hints { AreHints (state self.old) [] hints.now }
+        ensures hints { OnOk result (EndsWith (state self.new) hints.now) }
         ensures written { EmptyWritten (state self.old) (state self.new) result }
         ensures log { KeepsLog (state self.old) (state self.new) }
         ensures port { IsPort (state self.new) };

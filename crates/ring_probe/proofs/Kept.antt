@@ -1,5 +1,5 @@
 -- What watches and reasons keep while lines are written.
-use Rattle.std.proofs.Common.{◌≡◌, ◌∙◌, ℕ, ◌==◌, true, List, Option, Result, Ok, sym, refl, ap, subst, Contains}
+use Rattle.std.proofs.Common.{◌≡◌, ◌∙◌, ℕ, ◌==◌, true, List, Option, Result, Ok, IsSome, sym, refl, ap, subst, Contains}
 use Rattle.std.specs.Prelude.{IfOk}
 use Rattle.std.specs.declared.alloc.AllocError.{AllocError}
 use Rattle.std.specs.List.{find}
@@ -74,6 +74,11 @@ pub conflict_known : (s : PortState) (w : WatchData) (t : TrailData) (c : Cref) 
 conflict_known s w t c watched bad =
     let m = watch_of w c bad.member in
     subst (λ (x : Cref). Contains (known s) (lits_at s x.address)) m.3 (held_is_known s m.1.clause.address (attachable_held w.vars s m.1.clause.address (watched.clauses m.0 m.1 m.2)))
+
+pub conflict_held : (s : PortState) (w : WatchData) (t : TrailData) (c : Cref) → Watched w (lits_at s) t → IsConflict w (lits_at s) t c → IsSome (held_at s c.address)
+conflict_held s w t c watched bad =
+    let m = watch_of w c bad.member in
+    subst (λ (x : Cref). IsSome (held_at s x.address)) m.3 (attachable_held w.vars s m.1.clause.address (watched.clauses m.0 m.1 m.2))
 
 -- what propagation came to
 pub came_to : (s : PortState) (w : WatchData) (u : TrailData) (r : Result Propagated AllocError) (p q : Propagated) → r ≡ Ok p → p ≡ q → IfOk r (IsPropagated w (lits_at s) u) → IsPropagated w (lits_at s) u q

@@ -1,3 +1,4 @@
 pub mod Kept
 pub mod Tried
+pub mod Traced
 pub mod Negated

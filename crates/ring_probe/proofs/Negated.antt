@@ -84,7 +84,7 @@ module _ (s m : PortState) (v w : WatchData) (t u : TrailData) (l : Literal) (p 
   same_lits : lits_at m ≡ lits_at s
   same_lits = lits_same s m (held_then s m l p.wrote)
 
-  reasons_after : HasReasons (attached w) m u.steps
+  pub reasons_after : HasReasons (attached w) m u.steps
   reasons_after = subst (λ (cs : List Cref). HasReasons cs m u.steps) (sym p.same_clauses) p.reasons
 
   abbrev clauses : List (List Literal)

@@ -110,10 +110,10 @@ module _ (s : PortState) (v w : WatchData) (t u : TrailData) (l : Literal) (trie
   pub watched_back : Watched w (lits_at s) t
   watched_back = subst (λ (x : TrailData). Watched w (lits_at s) x) back (Watched-back w (lits_at s) u 0 tried.shape (omega arith) tried.watched)
 
-  reasons_after : HasReasons (attached w) s u.steps
+  pub reasons_after : HasReasons (attached w) s u.steps
   reasons_after = subst (λ (cs : List Cref). HasReasons cs s u.steps) (sym tried.same) tried.reasons
 
-  decisions_after : decisions_of u.steps ≡ l ∷ []
+  pub decisions_after : decisions_of u.steps ≡ l ∷ []
   decisions_after =
       decisions_grown (attached_at (attached v) s) s.seen (decided t l) u tried.opened tried.grown tried.reasons
       ∙ decisions_decided t l

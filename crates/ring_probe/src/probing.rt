@@ -4,13 +4,14 @@ ghost use Rattle.sat_words.specs.Literal.{IsOn, opposite};
 ghost use Rattle.rup_model.specs.Rup.{rup};
 ghost use Rattle.ring_port.specs.PortState.{IsPort, lits_at, known};
 ghost use Rattle.ring_port.specs.Log.{KeepsLog};
-ghost use Rattle.ring_port.specs.Port.{is_usable};
+ghost use Rattle.ring_port.specs.Port.{is_usable, AreHints};
 ghost use Rattle.ring_trail.specs.TrailData.{IsTrail, value_of};
 ghost use Rattle.watch_prop.specs.WatchData.{attached};
 ghost use Rattle.watch_prop.specs.Watched.{Watched};
 ghost use Rattle.watch_prop.specs.Propagation.{HasReasons, IsQuiet};
 ghost use Rattle.ring_probe.specs.Outcome.{fails, IsProbed, WasCutShort};
 
+use analyze::Analysis;
 use ring_port::{Port, PortStop};
 use ring_trail::Trail;
 use sat_words::Lit;
@@ -40,6 +41,7 @@ pub fn probe<P: Port>(
     port: &mut P,
     watches: &mut Watches,
     trail: &mut Trail,
+    analysis: &mut Analysis,
     literal: Lit,
 ) -> Result<Probed, PortStop>
     requires level { trail.old.level ≡ 0 }
@@ -50,6 +52,8 @@ pub fn probe<P: Port>(
     requires on { IsOn (P.state port.old).vars literal }
     requires free { value_of trail.old.steps literal.var ≡ None }
     requires usable { is_usable (P.state port.old).refused ≡ true }
+    requires analysis { analysis.old.vars ≡ trail.old.vars }
+    ensures analysis { analysis.new.vars ≡ analysis.old.vars }
     ensures probed { IfOk result
         (IsProbed (P.state port.old) (P.state port.new) (attached watches.old) watches.new trail.old trail.new literal) }
     ensures stopped { IfErr result
@@ -67,21 +71,22 @@ pub fn probe<P: Port>(
 {
     let _vars = port.vars();
     let _lawful = trail.decision_level();
-    let Ok(failed) = literal_fails(port, watches, trail, literal) else {
+    let Ok(failed) = literal_fails(port, watches, trail, analysis, literal) else {
         return Err(PortStop::Memory);
     };
     if failed {
-        return follow_negation(port, watches, trail, literal);
+        return follow_negation(port, watches, trail, analysis, literal);
     }
     Ok(Probed::Holds)
 }
 
 /// Whether the literal fails. It is decided and propagated, and then taken back: the trail is as it was, also if there is no
-/// memory.
+/// memory. If it fails hints are found for the line of its negation.
 fn literal_fails<P: Port>(
     port: &mut P,
     watches: &mut Watches,
     trail: &mut Trail,
+    analysis: &mut Analysis,
     literal: Lit,
 ) -> Result<bool, AllocError>
     requires level { trail.old.level ≡ 0 }
@@ -90,6 +95,8 @@ fn literal_fails<P: Port>(
     requires reasons { HasReasons (attached watches.old) (P.state port.old) trail.old.steps }
     requires in_range { literal.var ≤ trail.old.vars }
     requires free { value_of trail.old.steps literal.var ≡ None }
+    requires analysis { analysis.old.vars ≡ trail.old.vars }
+    ensures analysis { analysis.new.vars ≡ analysis.old.vars }
     ensures same { P.state port.new ≡ P.state port.old }
     ensures trail { trail.new ≡ trail.old }
     ensures attached { attached watches.new ≡ attached watches.old }
@@ -97,11 +104,15 @@ fn literal_fails<P: Port>(
     ensures watched { Watched watches.new (lits_at (P.state port.old)) trail.old }
     ensures failed { IfOk result (λ failed. failed ≡ fails (P.state port.old) (attached watches.old) trail.old.steps literal) }
     ensures implied { IfOk result (λ failed. failed ≡ true → rup (known (P.state port.old)) (opposite literal ∷ []) ≡ true) }
+    ensures hints { IfOk result (λ failed. failed ≡ true → AreHints (P.state port.old) (opposite literal ∷ []) analysis.new.hints) }
 {
     let _lawful = trail.decision_level();
     trail.decide(literal);
     let propagated = watches.propagate(port, trail);
     let _lawful_after = trail.decision_level();
+    if let Ok(Propagated::Conflict(conflict)) = propagated {
+        analysis.trace_clause(port, trail, &[literal.not()], conflict);
+    }
     trail.back_to(0);
     match propagated? {
         Propagated::Quiet => Ok(false),
@@ -115,6 +126,7 @@ fn follow_negation<P: Port>(
     port: &mut P,
     watches: &mut Watches,
     trail: &mut Trail,
+    analysis: &mut Analysis,
     literal: Lit,
 ) -> Result<Probed, PortStop>
     requires level { trail.old.level ≡ 0 }
@@ -128,6 +140,9 @@ fn follow_negation<P: Port>(
     requires port { IsPort (P.state port.old) }
     requires failed { fails (P.state port.old) (attached watches.old) trail.old.steps literal ≡ true }
     requires implied { rup (known (P.state port.old)) (opposite literal ∷ []) ≡ true }
+    requires hints { AreHints (P.state port.old) (opposite literal ∷ []) analysis.old.hints }
+    requires analysis { analysis.old.vars ≡ trail.old.vars }
+    ensures analysis { analysis.new.vars ≡ analysis.old.vars }
     ensures probed { IfOk result
         (IsProbed (P.state port.old) (P.state port.new) (attached watches.old) watches.new trail.old trail.new literal) }
     ensures stopped { IfErr result
@@ -144,7 +159,7 @@ fn follow_negation<P: Port>(
     ensures port { IsPort (P.state port.new) }
 {
     let unit = literal.not();
-    port.unit(unit)?;
+    port.unit(unit, analysis.hints())?;
     trail.assign(unit, None);
     let followed = watches.propagate(port, trail);
     let _lawful = trail.decision_level();
@@ -153,8 +168,9 @@ fn follow_negation<P: Port>(
     };
     match propagated {
         Propagated::Quiet => Ok(Probed::Unit(unit)),
-        Propagated::Conflict(_) => {
-            port.empty()?;
+        Propagated::Conflict(conflict) => {
+            analysis.trace_clause(port, trail, &[], conflict);
+            port.empty(analysis.hints())?;
             Ok(Probed::Empty)
         }
     }

@@ -34,7 +34,7 @@ use Rattle.ring_run.proofs.Lately.{lately_none}
 
 pub runs_begin : (s : PortState) → IsUntouched s → IsPort s → Runs s s 0
 runs_begin s p port = record {
-  stays = record { start = refl; opening = refl; vars = refl; ring = refl; rings = refl; depth = refl; polled = omega arith; limit = refl; home = refl; log = λ o h. h };
+  stays = record { start = refl; opening = refl; vars = refl; ring = refl; rings = refl; depth = refl; polled = omega arith; limit = refl; home = refl; hinted = refl; log = λ o h. h };
   held = p.held;
   wrote = subst (All (IsOwn s.ring s.vars)) (sym p.mine) (λ k d h. absurd (omega arith));
   counted = sym (ap (λ (J : List Entry). length (learned s.ring J)) p.mine);

@@ -135,6 +135,7 @@ module _ (s w : PortState) (k : Literal) (took : TookUnit s w k) (seen : AddedSe
     polled = omega (arith, ap (λ (x : PortState). x.polled) took.state);
     limit = ap (λ (x : PortState). x.limit) took.state;
     home = ap (λ (x : PortState). x.home) took.state;
+    hinted = ap (λ (x : PortState). x.hinted) took.state;
     log = log;
   }
 
@@ -173,6 +174,7 @@ pub record Polls (s u : PortState) (given : List Cref) : Type 0 where
   pub taken : u.taken ≡ s.taken ++ map (λ (c : Cref). c.address) given
   pub tickets : tickets_of u ≡ tickets_of s
   pub home : u.home ≡ s.home
+  pub hinted : u.hinted ≡ s.hinted
   pub seen : u.seen ≡ s.seen
   pub units : u.given ≡ s.given
   pub mine : u.mine ≡ s.mine
@@ -193,6 +195,7 @@ polled_none s u ring class place is = subst (λ (x : PortState). Polls s x []) (
   taken = sym (append-nil s.taken);
   tickets = refl;
   home = refl;
+  hinted = refl;
   seen = refl;
   units = refl;
   mine = refl;
@@ -214,6 +217,7 @@ polled_some s u ring class place c w kept = record {
   taken = ap (λ (x : PortState). x.taken) w.state;
   tickets = ap tickets_of w.state;
   home = ap (λ (x : PortState). x.home) w.state;
+  hinted = ap (λ (x : PortState). x.hinted) w.state;
   seen = ap (λ (x : PortState). x.seen) w.state;
   units = ap (λ (x : PortState). x.given) w.state;
   mine = ap (λ (x : PortState). x.mine) w.state;
@@ -243,6 +247,7 @@ module _ (s u : PortState) (given : List Cref) (d : Polls s u given) (one : leng
     polled = omega (arith, d.polled);
     limit = limit_same s u d.tickets;
     home = d.home;
+    hinted = d.hinted;
     log = log;
   }
 

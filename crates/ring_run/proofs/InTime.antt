@@ -47,14 +47,14 @@ pub in_time_learned : (s u : PortState) (lits : List Literal) (glue : ℕ) (addr
 in_time_learned s u lits glue (Some c) n w h =
     let ring = ap (λ (x : PortState). x.ring) w.state in
     let mine = ap (λ (x : PortState). x.mine) w.state in
-    let lately = recent_lemma s u w.number lits ring mine in
-    let reduced = reductions_other s u (record { ring = s.ring; number = w.number; lits = lits; kind = Learn; hints = [] }) ring mine in
+    let lately = recent_lemma s u w.number lits w.hints ring mine in
+    let reduced = reductions_other s u (record { ring = s.ring; number = w.number; lits = lits; kind = Learn; hints = w.hints }) ring mine in
     omega (arith, h, lately, reduced)
 in_time_learned s u lits glue None n w h =
     let ring = ap (λ (x : PortState). x.ring) w.wrote.state in
     let mine = ap (λ (x : PortState). x.mine) w.wrote.state in
-    let lately = recent_lemma s u w.wrote.number (w.lit ∷ []) ring mine in
-    let reduced = reductions_other s u (record { ring = s.ring; number = w.wrote.number; lits = w.lit ∷ []; kind = Learn; hints = [] }) ring mine in
+    let lately = recent_lemma s u w.wrote.number (w.lit ∷ []) w.wrote.hints ring mine in
+    let reduced = reductions_other s u (record { ring = s.ring; number = w.wrote.number; lits = w.lit ∷ []; kind = Learn; hints = w.wrote.hints }) ring mine in
     omega (arith, h, lately, reduced)
 
 -- where it was asked whether a restart is due, and none is

@@ -78,10 +78,10 @@ module _ (s m : PortState) (ring mid : Ring) (c : Cref) (p : IsResting s ring) (
   left_rest Kept z = (subst (OffersNothing s) (sym z.state) (nothing_none s), ap (λ (x : PortState). x.looks) z.state, ap (λ (x : PortState). x.start) z.state)
   left_rest (Shorter d) z =
       let b = shorter_behind s m ring.watches ring.trail.steps c p.search.clauses.port held may.glued (p.reduced, p.lately) stay may.apart log port mid.watches d z in
-      (shorter_nothing s m left_lits z.derived.number b, b.looks, b.start)
+      (shorter_nothing s m left_lits z.derived.number z.derived.hints b, b.looks, b.start)
   left_rest (Unit l) z =
       let b = became_behind s m ring.watches ring.trail.steps c p.search.clauses.port held may.glued (p.reduced, p.lately) stay may.apart log port mid.watches l z in
-      (became_nothing s m l z.wrote.number b, b.looks, b.start)
+      (became_nothing s m l z.wrote.number z.wrote.hints b, b.looks, b.start)
   left_rest Empty z = absurd z
 
   module _ (trail : mid.trail ≡ ring.trail) (written : mid.written ≡ ring.written) (watched : Watched mid.watches (lits_at m) mid.trail) (reasons : HasReasons (attached mid.watches) m mid.trail.steps) (quiet : IsQuiet mid.watches (lits_at m) mid.trail) where
@@ -116,19 +116,19 @@ module _ (s m : PortState) (ring mid : Ring) (c : Cref) (p : IsResting s ring) (
         let seen : m.seen ≡ s.seen = ap (λ (x : PortState). x.seen) z.dropped.state ∙ ap (λ (x : PortState). x.seen) z.derived.state in
         let apart : d.address ≢ c.address = λ e. none_both (held_at s d.address) (subst (λ (a : ℕ). IsSome (held_at s a)) (sym e) held) z.derived.free.not_held in
         let there : IsSome (held_at m d.address) = subst (λ (o : Option Holding). IsSome o) (sym (dropped_others z.middle m c.address d.address z.dropped apart ∙ z.derived.there)) refl in
-        let lately : recent m.ring m.mine ≡ [] = recent_other s m z.derived.number lits Derive refl b.ring b.mine ∙ p.lately in
+        let lately : recent m.ring m.mine ≡ [] = recent_other s m z.derived.number lits Derive z.derived.hints refl b.ring b.mine ∙ p.lately in
         let none : m.taken ≡ [] = b.taken ∙ p.none_taken in
         let refused : m.refused ≡ s.refused = ap (λ (x : PortState). x.refused) z.dropped.state ∙ ap (λ (x : PortState). x.refused) z.derived.state in
         let distinct = (left_clause s ring.watches ring.trail.steps c p.search.clauses.port held).distinct in
         let clauses : HasClauses m (attached mid.watches) = clauses_left s m ring.watches mid.watches c (Some d) c z.attached_now p.search.clauses stay may.apart there b.start lately none
-        (derived_units s m lits z.derived.number b z.derived.long distinct seen p.search.clauses.own.units) refused b.stop port in
+        (derived_units s m lits z.derived.number z.derived.hints b z.derived.long distinct seen p.search.clauses.own.units) refused b.stop port in
         rests_again (search_left s m ring.trail ring.watches mid.watches ring.written p.search p.level clauses watched_then reasons_then b.vars b.opening seen)
-        (reductions_other s m (record { ring = s.ring; number = z.derived.number; lits = lits; kind = Derive; hints = [] }) b.ring b.mine) lately none
+        (reductions_other s m (record { ring = s.ring; number = z.derived.number; lits = lits; kind = Derive; hints = z.derived.hints }) b.ring b.mine) lately none
     left_behind (Unit l) z open_unit =
         let b = became_behind s m ring.watches ring.trail.steps c p.search.clauses.port held may.glued (p.reduced, p.lately) stay may.apart log port mid.watches l z in
         let dropped_seen : m.seen ≡ z.middle.seen = ap (λ (x : PortState). x.seen) z.dropped.state in
         let sees : Sees s.seen m.seen l = λ k. ap (λ (ls : List Literal). has ls k) dropped_seen ∙ z.wrote.sees k in
-        let lately : recent m.ring m.mine ≡ [] = recent_other s m z.wrote.number (l ∷ []) UnitLine refl b.ring b.mine ∙ p.lately in
+        let lately : recent m.ring m.mine ≡ [] = recent_other s m z.wrote.number (l ∷ []) UnitLine z.wrote.hints refl b.ring b.mine ∙ p.lately in
         let none : m.taken ≡ [] = b.taken ∙ p.none_taken in
         let refused : m.refused ≡ s.refused = ap (λ (x : PortState). x.refused) z.dropped.state ∙ ap (λ (x : PortState). x.refused) z.wrote.state in
         let units : (k : Literal) → Rattle.rup_model.specs.Opening.adds_unit m.ring m.mine k ≡ true → has m.seen k ≡ true = λ k h.
@@ -138,7 +138,7 @@ module _ (s m : PortState) (ring mid : Ring) (c : Cref) (p : IsResting s ring) (
         let clauses : HasClauses m (attached mid.watches) = clauses_left s m ring.watches mid.watches c None c is p.search.clauses stay may.apart tt b.start lately none units refused b.stop port in
         let free = no_place ring.trail.steps l (left_open l z.left) (open_unit l refl) in
         let on : IsOn s.vars l = unit_on s m ring.watches ring.trail.steps c p.search.clauses.port held may.glued (p.reduced, p.lately) stay may.apart log port l z.left in
-        let reduced = reductions_other s m (record { ring = s.ring; number = z.wrote.number; lits = l ∷ []; kind = UnitLine; hints = [] }) b.ring b.mine in
+        let reduced = reductions_other s m (record { ring = s.ring; number = z.wrote.number; lits = l ∷ []; kind = UnitLine; hints = z.wrote.hints }) b.ring b.mine in
         record {
           reduced = omega (arith, reduced, p.reduced);
           search = λ shape. (
@@ -168,7 +168,7 @@ module _ (s m : PortState) (ring mid : Ring) (c : Cref) (p : IsResting s ring) (
       let now : attached new.watches ≡ without (attached ring.watches) c.address ++ d ∷ [] = ap (λ (x : Point). attached x.watches) w.0 ∙ z.attached_now in
       let b = shorter_behind s m ring.watches ring.trail.steps c p.search.clauses.port held may.glued (p.reduced, p.lately) stay may.apart log port mid.watches d z in
       let is : u ≡ m = ap (λ (x : Point). x.port) w.0 in
-      let x : Addition = record { ring = s.ring; number = z.derived.number; lits = left_lits; kind = Derive; hints = [] } in
+      let x : Addition = record { ring = s.ring; number = z.derived.number; lits = left_lits; kind = Derive; hints = z.derived.hints } in
       record {
         others = others_stay s m ring.watches new.watches c (Some d) c now;
         held = λ a ne some. ap (λ (y : PortState). held_at y a) is ∙ stay a ne some;
@@ -178,7 +178,7 @@ module _ (s m : PortState) (ring mid : Ring) (c : Cref) (p : IsResting s ring) (
   left_others u new (Unit l) o z w =
       let now : attached new.watches ≡ without (attached ring.watches) c.address ++ [] = w.0.same_clauses ∙ z.attached_now ∙ sym (append-nil (without (attached ring.watches) c.address)) in
       let b = became_behind s m ring.watches ring.trail.steps c p.search.clauses.port held may.glued (p.reduced, p.lately) stay may.apart log port mid.watches l z in
-      let x : Addition = record { ring = s.ring; number = z.wrote.number; lits = l ∷ []; kind = UnitLine; hints = [] } in
+      let x : Addition = record { ring = s.ring; number = z.wrote.number; lits = l ∷ []; kind = UnitLine; hints = z.wrote.hints } in
       record {
         others = others_stay s m ring.watches new.watches c None c now;
         held = λ a ne some. held_same m u a w.0.lines.held ∙ stay a ne some;
@@ -197,7 +197,7 @@ module _ (s m : PortState) (ring mid : Ring) (c : Cref) (p : IsResting s ring) (
       let now : attached new.watches ≡ without (attached ring.watches) c.address ++ d ∷ [] = ap (λ (x : Point). attached x.watches) w.0 ∙ z.attached_now in
       let b = shorter_behind s m ring.watches ring.trail.steps c p.search.clauses.port held may.glued (p.reduced, p.lately) stay may.apart log port mid.watches d z in
       let is : u ≡ m = ap (λ (x : Point). x.port) w.0 in
-      let x : Addition = record { ring = s.ring; number = z.derived.number; lits = left_lits; kind = Derive; hints = [] } in
+      let x : Addition = record { ring = s.ring; number = z.derived.number; lits = left_lits; kind = Derive; hints = z.derived.hints } in
       let apart : d.address ≢ c.address = λ e. none_both (held_at s d.address) (subst (λ (a : ℕ). IsSome (held_at s a)) (sym e) held) z.derived.free.not_held in
       let glue : ℕ = min (glue_at s c.address) (length left_lits - 1) in
       let there : held_at u d.address ≡ Some (holding_of d z.derived.number glue left_lits)

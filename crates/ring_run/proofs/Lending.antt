@@ -51,6 +51,7 @@ lent_stays s u p log =
       polled = omega (arith, ap (λ (x : PortState). x.polled) is);
       limit = ap (λ (x : PortState). x.limit) is;
       home = ap (λ (x : PortState). x.home) is;
+      hinted = ap (λ (x : PortState). x.hinted) is;
       log = log;
     }
 

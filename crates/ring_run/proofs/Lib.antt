@@ -1,4 +1,5 @@
 pub mod LevelZero
+pub mod Hinting
 pub mod Remembering
 pub mod Numbering
 pub mod Lately

@@ -115,7 +115,7 @@ pub listed_learned : (s u w : PortState) (old new : Ring) (lits : List Literal) 
 listed_learned s u w old new lits glue (Some c) clauses k start lately lists now count kept alike grown noted bound p =
     let items : new.lemmas.items ≡ old.lemmas.items ++ c ∷ [] = lists.lemmas in
     let cs = attached old.watches in
-    let x : Addition = record { ring = s.ring; number = k.number; lits = lits; kind = Learn; hints = [] } in
+    let x : Addition = record { ring = s.ring; number = k.number; lits = lits; kind = Learn; hints = k.hints } in
     let ring_u : u.ring ≡ s.ring = ap (λ (y : PortState). y.ring) k.state in
     let mine_u : u.mine ≡ s.mine ++ Add x ∷ [] = ap (λ (y : PortState). y.mine) k.state in
     let stay : (d : Cref) → In d old.lemmas.items → held_at u d.address ≡ held_at s d.address = λ d m. kept d.address (held_before s u cs old.lemmas.items lits glue c clauses k p.member d m) in
@@ -136,7 +136,7 @@ listed_learned s u w old new lits glue (Some c) clauses k start lately lists now
       apart = λ h d there m. joined_apart s u cs old.lemmas.items lits glue c clauses k p.member p.apart h d
           (subst (λ (hs : List Holding). Contains hs h) (start ∙ ap (λ (x : PortState). x.start) k.state) there) (subst (λ (ds : List Cref). Contains ds d) items m);
       count = (let many = ap (λ (ls : List (List Literal)). length ls) lately in
-          let more = recent_lemma s u k.number lits (ap (λ (x : PortState). x.ring) k.state) (ap (λ (x : PortState). x.mine) k.state) in
+          let more = recent_lemma s u k.number lits k.hints (ap (λ (x : PortState). x.ring) k.state) (ap (λ (x : PortState). x.mine) k.state) in
           omega (arith, p.count, count, lists.reduced_at, many, more));
       few = omega (arith, p.few, lists.reductions, lists.reduced_at);
       imported = subst (λ (ds : List Cref). All (Contains ds) new.imports.items) (sym now) (subst (All (Contains (cs ++ c ∷ []))) (sym lists.imports)
@@ -146,7 +146,7 @@ listed_learned s u w old new lits glue (Some c) clauses k start lately lists now
 listed_learned s u w old new lits glue None clauses k start lately lists now count kept alike grown noted bound p =
     let items : new.lemmas.items ≡ old.lemmas.items = lists.lemmas ∙ append-nil old.lemmas.items in
     let same : attached new.watches ≡ attached old.watches = now ∙ append-nil (attached old.watches) in
-    let x : Addition = record { ring = s.ring; number = k.wrote.number; lits = k.lit ∷ []; kind = Learn; hints = [] } in
+    let x : Addition = record { ring = s.ring; number = k.wrote.number; lits = k.lit ∷ []; kind = Learn; hints = k.wrote.hints } in
     let ring_u : u.ring ≡ s.ring = ap (λ (y : PortState). y.ring) k.wrote.state in
     let mine_u : u.mine ≡ s.mine ++ Add x ∷ [] = ap (λ (y : PortState). y.mine) k.wrote.state in
     let stay : (d : Cref) → In d old.lemmas.items → held_at w d.address ≡ held_at s d.address
@@ -159,7 +159,7 @@ listed_learned s u w old new lits glue None clauses k start lately lists now cou
       member = subst (λ (ds : List Cref). All (Contains ds) new.lemmas.items) (sym same) (subst (All (Contains (attached old.watches))) (sym items) p.member);
       apart = λ h d there m. p.apart h d (subst (λ (hs : List Holding). Contains hs h) (start ∙ ap (λ (x : PortState). x.start) k.wrote.state) there) (subst (λ (ds : List Cref). Contains ds d) items m);
       count = (let many = ap (λ (ls : List (List Literal)). length ls) lately in
-          let more = recent_lemma s u k.wrote.number (k.lit ∷ []) (ap (λ (x : PortState). x.ring) k.wrote.state) (ap (λ (x : PortState). x.mine) k.wrote.state) in
+          let more = recent_lemma s u k.wrote.number (k.lit ∷ []) k.wrote.hints (ap (λ (x : PortState). x.ring) k.wrote.state) (ap (λ (x : PortState). x.mine) k.wrote.state) in
           omega (arith, p.count, count, lists.reduced_at, many, more));
       few = omega (arith, p.few, lists.reductions, lists.reduced_at);
       imported = subst (λ (ds : List Cref). All (Contains ds) new.imports.items) (sym same) (subst (All (Contains (attached old.watches))) (sym lists.imports) p.imported);

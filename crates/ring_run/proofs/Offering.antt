@@ -61,15 +61,15 @@ not_among r x e = ap (λ (b : Bool). map (λ (y : Addition). y.lits) (cond b (x 
     both true b e = e
     both false b e = refl
 
-same_lemmas : (s : PortState) (number : ℕ) (lits : List Literal) (kind : Kind) → is_learn kind ≡ false → learned s.ring (s.mine ++ entry_of s number lits kind ∷ []) ≡ learned s.ring s.mine
-same_lemmas s number lits kind other =
-    learned-append s.ring s.mine (entry_of s number lits kind ∷ [])
-    ∙ ap (λ (G : List (List Literal)). learned s.ring s.mine ++ G) (not_among s.ring (record { ring = s.ring; number = number; lits = lits; kind = kind; hints = [] }) other)
+same_lemmas : (s : PortState) (number : ℕ) (lits : List Literal) (kind : Kind) (hints : List ℕ) → is_learn kind ≡ false → learned s.ring (s.mine ++ entry_of s number lits kind hints ∷ []) ≡ learned s.ring s.mine
+same_lemmas s number lits kind hints other =
+    learned-append s.ring s.mine (entry_of s number lits kind hints ∷ [])
+    ∙ ap (λ (G : List (List Literal)). learned s.ring s.mine ++ G) (not_among s.ring (record { ring = s.ring; number = number; lits = lits; kind = kind; hints = hints }) other)
     ∙ append-nil (learned s.ring s.mine)
 
-nothing_added : (s u : PortState) (number : ℕ) (lits : List Literal) (kind : Kind) → is_learn kind ≡ false → u.shared ≡ s.shared → u.polled ≡ s.polled → u.polls ≡ s.polls → u.polls_after ≡ s.polls_after → min s.caught_up (2 ^ 64 - 1) ≤ u.caught_up → u.ring ≡ s.ring → u.rings ≡ s.rings → u.depth ≡ s.depth
-    → u.mine ≡ s.mine ++ entry_of s number lits kind ∷ [] → u.found ≡ s.found → OffersNothing s u
-nothing_added s u number lits kind other shared polled polls polls_after caught_up ring rings depth mine found = record {
+nothing_added : (s u : PortState) (number : ℕ) (lits : List Literal) (kind : Kind) (hints : List ℕ) → is_learn kind ≡ false → u.shared ≡ s.shared → u.polled ≡ s.polled → u.polls ≡ s.polls → u.polls_after ≡ s.polls_after → min s.caught_up (2 ^ 64 - 1) ≤ u.caught_up → u.ring ≡ s.ring → u.rings ≡ s.rings → u.depth ≡ s.depth
+    → u.mine ≡ s.mine ++ entry_of s number lits kind hints ∷ [] → u.found ≡ s.found → OffersNothing s u
+nothing_added s u number lits kind hints other shared polled polls polls_after caught_up ring rings depth mine found = record {
   shared = shared;
   polled = polled;
   polls = polls;
@@ -79,17 +79,17 @@ nothing_added s u number lits kind other shared polled polls polls_after caught_
   rings = rings;
   depth = depth;
   found = found;
-  lemmas = ap (λ (r : ℕ). learned r u.mine) ring ∙ ap (learned s.ring) mine ∙ same_lemmas s number lits kind other;
+  lemmas = ap (λ (r : ℕ). learned r u.mine) ring ∙ ap (learned s.ring) mine ∙ same_lemmas s number lits kind hints other;
 }
 
 pub nothing_unit : (s u : PortState) (l : Literal) (r : Result (Unit {0}) PortStop) → UnitWritten s u l r → OffersNothing s u
 nothing_unit s u l (Ok done) w =
-    nothing_added s u w.number (l ∷ []) UnitLine refl (ap (λ (x : PortState). x.shared) w.state) (ap (λ (x : PortState). x.polled) w.state) (ap (λ (x : PortState). x.polls) w.state) (ap (λ (x : PortState). x.polls_after) w.state) (omega (arith, w.looked)) (ap (λ (x : PortState). x.ring) w.state) (ap (λ (x : PortState). x.rings) w.state) (ap (λ (x : PortState). x.depth) w.state) (ap (λ (x : PortState). x.mine) w.state) (ap (λ (x : PortState). x.found) w.state)
+    nothing_added s u w.number (l ∷ []) UnitLine w.hints refl (ap (λ (x : PortState). x.shared) w.state) (ap (λ (x : PortState). x.polled) w.state) (ap (λ (x : PortState). x.polls) w.state) (ap (λ (x : PortState). x.polls_after) w.state) (omega (arith, w.looked)) (ap (λ (x : PortState). x.ring) w.state) (ap (λ (x : PortState). x.rings) w.state) (ap (λ (x : PortState). x.depth) w.state) (ap (λ (x : PortState). x.mine) w.state) (ap (λ (x : PortState). x.found) w.state)
 nothing_unit s u l (Err stop) w = nothing_refused s u stop w
 
 pub nothing_empty : (s u : PortState) (r : Result (Unit {0}) PortStop) → EmptyWritten s u r → OffersNothing s u
 nothing_empty s u (Ok done) w =
-    nothing_added s u w.number [] Derive refl (ap (λ (x : PortState). x.shared) w.state) (ap (λ (x : PortState). x.polled) w.state) (ap (λ (x : PortState). x.polls) w.state) (ap (λ (x : PortState). x.polls_after) w.state) (let same = ap (λ (x : PortState). x.caught_up) w.state in omega (arith, same)) (ap (λ (x : PortState). x.ring) w.state) (ap (λ (x : PortState). x.rings) w.state) (ap (λ (x : PortState). x.depth) w.state) (ap (λ (x : PortState). x.mine) w.state) (ap (λ (x : PortState). x.found) w.state)
+    nothing_added s u w.number [] Derive w.hints refl (ap (λ (x : PortState). x.shared) w.state) (ap (λ (x : PortState). x.polled) w.state) (ap (λ (x : PortState). x.polls) w.state) (ap (λ (x : PortState). x.polls_after) w.state) (let same = ap (λ (x : PortState). x.caught_up) w.state in omega (arith, same)) (ap (λ (x : PortState). x.ring) w.state) (ap (λ (x : PortState). x.rings) w.state) (ap (λ (x : PortState). x.depth) w.state) (ap (λ (x : PortState). x.mine) w.state) (ap (λ (x : PortState). x.found) w.state)
 nothing_empty s u (Err stop) w = nothing_refused s u stop w
 
 nothing_is : (s u : PortState) (looks : ℕ) (stop : Option Stop) → u ≡ record s { looks = looks; stop = stop } → OffersNothing s u
@@ -138,10 +138,10 @@ among r x same_ring e = ap (λ (b : Bool). map (λ (y : Addition). y.lits) (cond
     both true b p q = q
     both false b p q = absurd (false≢true p)
 
-lemmas_more : (s u : PortState) (number : ℕ) (lits : List Literal) → u.ring ≡ s.ring → u.mine ≡ s.mine ++ entry_of s number lits Learn ∷ [] → learned u.ring u.mine ≡ learned s.ring s.mine ++ lits ∷ []
-lemmas_more s u number lits ring mine =
-    ap (λ (r : ℕ). learned r u.mine) ring ∙ ap (learned s.ring) mine ∙ learned-append s.ring s.mine (entry_of s number lits Learn ∷ [])
-    ∙ ap (λ (G : List (List Literal)). learned s.ring s.mine ++ G) (among s.ring (record { ring = s.ring; number = number; lits = lits; kind = Learn; hints = [] }) refl refl)
+lemmas_more : (s u : PortState) (number : ℕ) (lits : List Literal) (hints : List ℕ) → u.ring ≡ s.ring → u.mine ≡ s.mine ++ entry_of s number lits Learn hints ∷ [] → learned u.ring u.mine ≡ learned s.ring s.mine ++ lits ∷ []
+lemmas_more s u number lits hints ring mine =
+    ap (λ (r : ℕ). learned r u.mine) ring ∙ ap (learned s.ring) mine ∙ learned-append s.ring s.mine (entry_of s number lits Learn hints ∷ [])
+    ∙ ap (λ (G : List (List Literal)). learned s.ring s.mine ++ G) (among s.ring (record { ring = s.ring; number = number; lits = lits; kind = Learn; hints = hints }) refl refl)
 
 count_one : (p : List Literal → Bool) (G : List (List Literal)) (c : List Literal) → length (filter p (G ++ c ∷ [])) ≡ length (filter p G) + cond (p c) 1 0
 count_one p G c =
@@ -169,10 +169,10 @@ long_true : (c : List Literal) → 2 ≤ length c → is_long c ≡ true
 long_true c h = grind (arith, nat_tests)
 
 module _ (s u v : PortState) (e o more told glue : ℕ) (lits : List Literal) (h : HasOffered s e o) where
-  offers_plain : (number : ℕ) → u.shared ≡ s.shared → u.ring ≡ s.ring → u.rings ≡ s.rings → u.mine ≡ s.mine ++ entry_of s number lits Learn ∷ [] → is_short lits ≡ false → HasOffered u e o
-  offers_plain number shared ring rings mine not_short =
+  offers_plain : (number : ℕ) (hints : List ℕ) → u.shared ≡ s.shared → u.ring ≡ s.ring → u.rings ≡ s.rings → u.mine ≡ s.mine ++ entry_of s number lits Learn hints ∷ [] → is_short lits ≡ false → HasOffered u e o
+  offers_plain number hints shared ring rings mine not_short =
       let G = learned s.ring s.mine in
-      let lemmas = lemmas_more s u number lits ring mine in
+      let lemmas = lemmas_more s u number lits hints ring mine in
       record {
         shared = shared ∙ h.shared ∙ ap (λ (n : ℕ). n * e) (sym (others_same s u ring rings));
         all = subst (λ (K : List (List Literal)). length (filter is_short K) ≤ e) (sym lemmas)
@@ -181,14 +181,14 @@ module _ (s u v : PortState) (e o more told glue : ℕ) (lits : List Literal) (h
         told = h.told ∙ ap (λ (n : ℕ). min n (2 ^ 64 - 1)) (sym shared);
       }
 
-  offers_one : (number class address : ℕ) → u.shared ≡ s.shared → u.ring ≡ s.ring → u.rings ≡ s.rings → u.mine ≡ s.mine ++ entry_of s number lits Learn ∷ [] → 2 ≤ length lits → Offered u v class address
+  offers_one : (number class address : ℕ) (hints : List ℕ) → u.shared ≡ s.shared → u.ring ≡ s.ring → u.rings ≡ s.rings → u.mine ≡ s.mine ++ entry_of s number lits Learn hints ∷ [] → 2 ≤ length lits → Offered u v class address
       → more ≡ e + 1 → told ≡ min (o + length (other_rings u)) (2 ^ 64 - 1) → HasOffered v more told
-  offers_one number class address shared ring rings mine long lent is_more is_told =
+  offers_one number class address hints shared ring rings mine long lent is_more is_told =
       let G = learned s.ring s.mine in
       let ring_v : v.ring ≡ u.ring = ap (λ (x : PortState). x.ring) lent.state in
       let rings_v : v.rings ≡ u.rings = ap (λ (x : PortState). x.rings) lent.state in
       let lemmas_v : learned v.ring v.mine ≡ learned u.ring u.mine = ap (λ (x : PortState). learned x.ring x.mine) lent.state in
-      let lemmas = lemmas_v ∙ lemmas_more s u number lits ring mine in
+      let lemmas = lemmas_v ∙ lemmas_more s u number lits hints ring mine in
       let n : ℕ = length (other_rings s) in
       let of_u : length (other_rings u) ≡ n = others_same s u ring rings in
       let of_v : length (other_rings v) ≡ n = others_same u v ring_v rings_v ∙ of_u in
@@ -211,8 +211,8 @@ pub offers_learned : (s u v : PortState) (e o more told glue : ℕ) (lits : List
     → (2 ≤ length lits → (1 ≤ glue) × (glue < length lits)) → HasLent u v address e o more told → HasOffered v more told
 offers_learned s u v e o more told glue lits None h w bounds lent =
     let not_short : is_short lits ≡ false = subst (λ (c : List Literal). is_short c ≡ false) (sym w.unit) refl in
-    let here = offers_plain s u u e o e o glue lits h w.wrote.number (ap (λ (x : PortState). x.shared) w.wrote.state) (ap (λ (x : PortState). x.ring) w.wrote.state) (ap (λ (x : PortState). x.rings) w.wrote.state)
-    (ap (λ (x : PortState). x.mine) w.wrote.state ∙ ap (λ (c : List Literal). s.mine ++ entry_of s w.wrote.number c Learn ∷ []) (sym w.unit)) not_short in
+    let here = offers_plain s u u e o e o glue lits h w.wrote.number w.wrote.hints (ap (λ (x : PortState). x.shared) w.wrote.state) (ap (λ (x : PortState). x.ring) w.wrote.state) (ap (λ (x : PortState). x.rings) w.wrote.state)
+    (ap (λ (x : PortState). x.mine) w.wrote.state ∙ ap (λ (c : List Literal). s.mine ++ entry_of s w.wrote.number c Learn w.wrote.hints ∷ []) (sym w.unit)) not_short in
     subst (λ (x : PortState). HasOffered x more told) (sym lent.0) (subst (λ (n : ℕ). HasOffered u n told) (sym lent.1) (subst (HasOffered u e) (sym lent.2) here))
 offers_learned s u v e o more told glue lits (Some c) h w bounds lent =
     by (class_of (length lits) glue) refl (subst (λ (k : Option ℕ). HasLentBy u v k c.address e o more told) (class_learned s u lits glue c w) lent)
@@ -226,15 +226,15 @@ offers_learned s u v e o more told glue lits (Some c) h w bounds lent =
     rings_u : u.rings ≡ s.rings
     rings_u = ap (λ (x : PortState). x.rings) w.state
 
-    mine_u : u.mine ≡ s.mine ++ entry_of s w.number lits Learn ∷ []
+    mine_u : u.mine ≡ s.mine ++ entry_of s w.number lits Learn w.hints ∷ []
     mine_u = ap (λ (x : PortState). x.mine) w.state
 
     by : (k : Option ℕ) → class_of (length lits) glue ≡ k → HasLentBy u v k c.address e o more told → HasOffered v more told
     by None is q =
         let b = bounds w.long in
-        let here = offers_plain s u u e o e o glue lits h w.number shared_u ring_u rings_u mine_u (no_class (length lits) glue is b.0 b.1) in
+        let here = offers_plain s u u e o e o glue lits h w.number w.hints shared_u ring_u rings_u mine_u (no_class (length lits) glue is b.0 b.1) in
         subst (λ (x : PortState). HasOffered x more told) (sym q.0) (subst (λ (n : ℕ). HasOffered u n told) (sym q.1) (subst (HasOffered u e) (sym q.2) here))
-    by (Some class) is q = offers_one s u v e o more told glue lits h w.number class c.address shared_u ring_u rings_u mine_u w.long q.0 q.1 q.2
+    by (Some class) is q = offers_one s u v e o more told glue lits h w.number class c.address w.hints shared_u ring_u rings_u mine_u w.long q.0 q.1 q.2
 
 -- what an offer leaves as it was: each clause is held where it was
 pub record OnlyLent (old new : PortState) : Type 0 where

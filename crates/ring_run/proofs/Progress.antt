@@ -55,6 +55,7 @@ stays_by s u w p q = record {
   polled = omega (arith, q.polled, p.polled);
   limit = q.limit ∙ p.limit;
   home = q.home ∙ p.home;
+  hinted = q.hinted ∙ p.hinted;
   log = λ o h. q.log o (p.log o h);
 }
 
@@ -168,9 +169,9 @@ none_learned r x e = ap (λ (b : Bool). map (λ (y : Addition). y.lits) (cond b 
     both false b e = refl
 
 -- an entry of another kind
-pub recent_other : (s u : PortState) (number : ℕ) (lits : List Literal) (kind : Kind) → is_learn kind ≡ false → u.ring ≡ s.ring → u.mine ≡ s.mine ++ entry_of s number lits kind ∷ [] → recent u.ring u.mine ≡ recent s.ring s.mine
-recent_other s u number lits kind other ring mine =
-    let x : Addition = record { ring = s.ring; number = number; lits = lits; kind = kind; hints = [] } in
+pub recent_other : (s u : PortState) (number : ℕ) (lits : List Literal) (kind : Kind) (hints : List ℕ) → is_learn kind ≡ false → u.ring ≡ s.ring → u.mine ≡ s.mine ++ entry_of s number lits kind hints ∷ [] → recent u.ring u.mine ≡ recent s.ring s.mine
+recent_other s u number lits kind hints other ring mine =
+    let x : Addition = record { ring = s.ring; number = number; lits = lits; kind = kind; hints = hints } in
     ap (λ (r : ℕ). recent r u.mine) ring ∙ ap (recent s.ring) mine ∙ recent_added s.ring s.mine x
     ∙ ap (λ (cs : List (List Literal)). recent s.ring s.mine ++ cs) (none_learned s.ring x other) ∙ append-nil (recent s.ring s.mine)
 
@@ -186,6 +187,7 @@ stays_unit s u l kind last w log = record {
   polled = omega (arith, ap (λ (x : PortState). x.polled) w.state);
   limit = ap (λ (x : PortState). x.limit) w.state;
   home = ap (λ (x : PortState). x.home) w.state;
+  hinted = ap (λ (x : PortState). x.hinted) w.state;
   log = log;
 }
 
@@ -210,8 +212,8 @@ one_learned r x same_ring e = ap (λ (b : Bool). length (map (λ (y : Addition).
     both false b p q = cc
 
 -- a unit's line that is new: the unit was not seen before
-pub new_line : (s : PortState) (l : Literal) (number : ℕ) → UnitsSeen s → IsPort s → has s.seen l ≡ false → IsNewLine s.opening s.given s.ring s.mine (entry_of s number (l ∷ []) UnitLine)
-new_line s l number units port unseen is_line =
+pub new_line : (s : PortState) (l : Literal) (number : ℕ) (hints : List ℕ) → UnitsSeen s → IsPort s → has s.seen l ≡ false → IsNewLine s.opening s.given s.ring s.mine (entry_of s number (l ∷ []) UnitLine hints)
+new_line s l number hints units port unseen is_line =
     All-cons (IsUntold s.opening s.given s.ring s.mine) l [] (record {
       not_listed = none (has s.opening l) (units.opening l);
       not_given = none (has s.given l) (λ h. All_In (λ (k : Literal). has s.seen k ≡ true) s.given l port.given (has_In s.given l h));
@@ -225,15 +227,15 @@ new_line s l number units port unseen is_line =
 -- a unit's line by propagation
 pub unit_goes_on : (start s u : PortState) (n : ℕ) (l : Literal) → GoesOn start s n → IsOn s.vars l → UnitsSeen s → has s.seen l ≡ false → WroteUnit s u l UnitLine s.last → KeepsLog s u → IsPort u → GoesOn start u n
 unit_goes_on start s u n l p on units unseen w log port =
-    let e : Entry = entry_of s w.number (l ∷ []) UnitLine in
+    let e : Entry = entry_of s w.number (l ∷ []) UnitLine w.hints in
     let stays = stays_unit s u l UnitLine s.last w log in
     let is : u.mine ≡ s.mine ++ e ∷ [] = ap (λ (x : PortState). x.mine) w.state in
     let held : u.held ≡ s.held = ap (λ (x : PortState). x.held) w.state in
     record {
       runs = runs_adds start s u n n e p.runs stays (λ a h. held_same s u a held) is
           (p.runs.stays.ring, subst (λ (v : ℕ). All (IsOn v) (l ∷ [])) p.runs.stays.vars (All-cons (IsOn s.vars) l [] on (All-nil (IsOn s.vars))), refl)
-          (no_lemma s.ring w.number l) (λ learns. absurd (false≢true learns)) (ap (λ (x : PortState). x.given) w.state) (new_line s l w.number units p.runs.port unseen) tt (glued_same s u held)
-          (lately_as s u (recent_other s u w.number (l ∷ []) UnitLine refl (ap (λ (x : PortState). x.ring) w.state) is) (λ a h. held_same s u a held) (λ k h. w.sees k ∙ or_left (has s.seen k) (same l k) h) p.runs.lately) port;
+          (no_lemma s.ring w.number w.hints l) (λ learns. absurd (false≢true learns)) (ap (λ (x : PortState). x.given) w.state) (new_line s l w.number w.hints units p.runs.port unseen) tt (glued_same s u held)
+          (lately_as s u (recent_other s u w.number (l ∷ []) UnitLine w.hints refl (ap (λ (x : PortState). x.ring) w.state) is) (λ a h. held_same s u a held) (λ k h. w.sees k ∙ or_left (has s.seen k) (same l k) h) p.runs.lately) port;
       draws = draws_same s u n (ap tickets_of w.state) p.draws;
       going = going_more s u e is p.going refl;
       stop = ap (λ (x : PortState). x.stop) w.state ∙ p.stop;
@@ -241,8 +243,8 @@ unit_goes_on start s u n l p on units unseen w log port =
       held = starts_kept s u stays.start (λ a h. held_same s u a held) p.held;
     }
   where
-    no_lemma : (r number : ℕ) (l : Literal) → n ≡ n + length (learned s.ring (entry_of s number (l ∷ []) UnitLine ∷ []))
-    no_lemma r number l = omega (arith, not_learned s.ring (record { ring = s.ring; number = number; lits = l ∷ []; kind = UnitLine; hints = [] }) refl)
+    no_lemma : (r number : ℕ) (hints : List ℕ) (l : Literal) → n ≡ n + length (learned s.ring (entry_of s number (l ∷ []) UnitLine hints ∷ []))
+    no_lemma r number hints l = omega (arith, not_learned s.ring (record { ring = s.ring; number = number; lits = l ∷ []; kind = UnitLine; hints = hints }) refl)
 
 -- a refusal changes nothing but what it notes
 pub record Unchanged (s u : PortState) : Type 0 where
@@ -262,6 +264,7 @@ pub record Unchanged (s u : PortState) : Type 0 where
   pub taken : u.taken ≡ s.taken
   pub tickets : tickets_of u ≡ tickets_of s
   pub home : u.home ≡ s.home
+  pub hinted : u.hinted ≡ s.hinted
   pub given : u.given ≡ s.given
   pub seen : u.seen ≡ s.seen
   pub looks : u.looks ≡ s.looks
@@ -287,6 +290,7 @@ but_noted s refused ended output = record {
   taken = refl;
   tickets = refl;
   home = refl;
+  hinted = refl;
   given = refl;
   seen = refl;
   looks = refl;
@@ -333,6 +337,7 @@ stays_same s u p log = record {
   polled = omega (arith, p.polled);
   limit = limit_same s u p.tickets;
   home = p.home;
+  hinted = p.hinted;
   log = log;
 }
 
@@ -378,6 +383,7 @@ stays_learned s u lits glue c w log = record {
   polled = omega (arith, ap (λ (x : PortState). x.polled) w.state);
   limit = ap (λ (x : PortState). x.limit) w.state;
   home = ap (λ (x : PortState). x.home) w.state;
+  hinted = ap (λ (x : PortState). x.hinted) w.state;
   log = log;
 }
 
@@ -449,15 +455,15 @@ pub record IsReady (start s : PortState) (count : ℕ) : Type 0 where
   pub held : HoldsStart s
 
 -- the entry of a lemma goes on with one more, and uses the ticket up
-learned_goes_on : (start s u : PortState) (n number : ℕ) (lits : List Literal) → IsReady start s n → tickets_of u ≡ (false, s.found, s.limit) → Stays s u → IsClause s.vars lits → IsNewTo s lits → 1 ≤ length lits
-    → u.mine ≡ s.mine ++ entry_of s number lits Learn ∷ [] → u.given ≡ s.given → AddsGlued s u → SeesMore s u → IsHeldOrSeen u lits → u.stop ≡ s.stop → u.refused ≡ s.refused → KeepsHeld s u → IsPort u → GoesOn start u (n + 1)
-learned_goes_on start s u n number lits p used stays clause fresh some is given glued more own stop refused kept port =
-    let e : Entry = entry_of s number lits Learn in
-    let x : Addition = record { ring = s.ring; number = number; lits = lits; kind = Learn; hints = [] } in
+learned_goes_on : (start s u : PortState) (n number : ℕ) (lits : List Literal) (hints : List ℕ) → IsReady start s n → tickets_of u ≡ (false, s.found, s.limit) → Stays s u → IsClause s.vars lits → IsNewTo s lits → 1 ≤ length lits
+    → u.mine ≡ s.mine ++ entry_of s number lits Learn hints ∷ [] → u.given ≡ s.given → AddsGlued s u → SeesMore s u → IsHeldOrSeen u lits → u.stop ≡ s.stop → u.refused ≡ s.refused → KeepsHeld s u → IsPort u → GoesOn start u (n + 1)
+learned_goes_on start s u n number lits hints p used stays clause fresh some is given glued more own stop refused kept port =
+    let e : Entry = entry_of s number lits Learn hints in
+    let x : Addition = record { ring = s.ring; number = number; lits = lits; kind = Learn; hints = hints } in
     record {
       runs = runs_adds start s u n (n + 1) e p.runs stays kept is
           (p.runs.stays.ring, subst (λ (v : ℕ). All (IsOn v) lits) p.runs.stays.vars clause.on, some)
-          (omega (arith, one_learned s.ring (record { ring = s.ring; number = number; lits = lits; kind = Learn; hints = [] }) refl refl)) (λ learns. fresh.unlisted) given (λ is_line. absurd (false≢true is_line)) tt glued (lately_more s u x stays.ring is kept more own p.runs.lately) port;
+          (omega (arith, one_learned s.ring (record { ring = s.ring; number = number; lits = lits; kind = Learn; hints = hints }) refl refl)) (λ learns. fresh.unlisted) given (λ is_line. absurd (false≢true is_line)) tt glued (lately_more s u x stays.ring is kept more own p.runs.lately) port;
       draws = (
           let none : u.ticket ≡ false = ap (λ (t : Bool × ℕ × ℕ). t.0) used in
           let found : u.found ≡ s.found = ap (λ (t : Bool × ℕ × ℕ). t.1) used in
@@ -472,7 +478,7 @@ learned_goes_on start s u n number lits p used stays clause fresh some is given 
 pub clause_goes_on : (start s u : PortState) (n glue : ℕ) (steps : List TrailStep) (lits : List Literal) (c : Cref) → IsReady start s n → IsClause s.vars lits → IsNewTo s lits → IsGlueOf steps lits glue → LearnedClause s u lits glue c → KeepsHeld s u → KeepsLog s u → IsPort u
     → GoesOn start u (n + 1)
 clause_goes_on start s u n glue steps lits c p clause fresh counts w kept log port =
-    learned_goes_on start s u n w.number lits p (ap tickets_of w.state) (stays_learned s u lits glue c w log) clause fresh (omega (arith, w.long))
+    learned_goes_on start s u n w.number lits w.hints p (ap tickets_of w.state) (stays_learned s u lits glue c w log) clause fresh (omega (arith, w.long))
     (ap (λ (x : PortState). x.mine) w.state) (ap (λ (x : PortState). x.given) w.state) (clause_glued s u steps lits glue c w counts) (sees_same s u (ap (λ (x : PortState). x.seen) w.state))
     (inl (record { address = c.address; there = ap (option_map (λ (h : Holding). h.lits)) w.there })) (ap (λ (x : PortState). x.stop) w.state) (ap (λ (x : PortState). x.refused) w.state) kept port
 
@@ -480,8 +486,8 @@ pub unit_learned_goes_on : (start s u : PortState) (n : ℕ) (lits : List Litera
     → GoesOn start u (n + 1)
 unit_learned_goes_on start s u n lits p clause fresh w kept log port =
     let wrote = w.wrote in
-    learned_goes_on start s u n wrote.number lits p (ap tickets_of wrote.state) (stays_unit s u w.lit Learn None wrote log) clause fresh (omega (arith, ap length w.unit))
-    (ap (λ (x : PortState). x.mine) wrote.state ∙ ap (λ (c : List Literal). s.mine ++ entry_of s wrote.number c Learn ∷ []) (sym w.unit))
+    learned_goes_on start s u n wrote.number lits wrote.hints p (ap tickets_of wrote.state) (stays_unit s u w.lit Learn None wrote log) clause fresh (omega (arith, ap length w.unit))
+    (ap (λ (x : PortState). x.mine) wrote.state ∙ ap (λ (c : List Literal). s.mine ++ entry_of s wrote.number c Learn wrote.hints ∷ []) (sym w.unit))
     (ap (λ (x : PortState). x.given) wrote.state) (glued_same s u (ap (λ (x : PortState). x.held) wrote.state))
     (λ k h. wrote.sees k ∙ or_left (has s.seen k) (same w.lit k) h) (inr (record { lit = w.lit; unit = w.unit; seen = wrote.sees w.lit ∙ or_right (has s.seen w.lit) (same w.lit w.lit) (same-refl w.lit) }))
     (ap (λ (x : PortState). x.stop) wrote.state) (ap (λ (x : PortState). x.refused) wrote.state) kept port
@@ -489,7 +495,7 @@ unit_learned_goes_on start s u n lits p clause fresh w kept log port =
 -- the empty clause
 pub empty_refutes : (start s u : PortState) (n : ℕ) → GoesOn start s n → EndedLog s u → KeepsLog s u → IsPort u → ComesTo start u n ring_end.Refuted
 empty_refutes start s u n p w log port =
-    let e : Entry = entry_of s w.number [] Derive in
+    let e : Entry = entry_of s w.number [] Derive w.hints in
     let stays : Stays s u = record {
       start = ap (λ (x : PortState). x.start) w.state;
       opening = ap (λ (x : PortState). x.opening) w.state;
@@ -500,14 +506,15 @@ empty_refutes start s u n p w log port =
       polled = omega (arith, ap (λ (x : PortState). x.polled) w.state);
       limit = ap (λ (x : PortState). x.limit) w.state;
       home = ap (λ (x : PortState). x.home) w.state;
+      hinted = ap (λ (x : PortState). x.hinted) w.state;
       log = log;
     } in
     record {
       runs = runs_adds start s u n n e p.runs stays (λ a h. held_same s u a (ap (λ (x : PortState). x.held) w.state)) (ap (λ (x : PortState). x.mine) w.state)
           (p.runs.stays.ring, All-nil (IsOn start.vars), inl refl)
-          (omega (arith, not_learned s.ring (record { ring = s.ring; number = w.number; lits = []; kind = Derive; hints = [] }) refl)) (λ learns. absurd (false≢true learns))
+          (omega (arith, not_learned s.ring (record { ring = s.ring; number = w.number; lits = []; kind = Derive; hints = w.hints }) refl)) (λ learns. absurd (false≢true learns))
           (ap (λ (x : PortState). x.given) w.state) (λ is_line. absurd (false≢true is_line)) (λ two. absurd (omega (arith, two))) (glued_same s u (ap (λ (x : PortState). x.held) w.state))
-          (lately_as s u (recent_other s u w.number [] Derive refl (ap (λ (x : PortState). x.ring) w.state) (ap (λ (x : PortState). x.mine) w.state)) (λ a h. held_same s u a (ap (λ (x : PortState). x.held) w.state)) (sees_same s u (ap (λ (x : PortState). x.seen) w.state)) p.runs.lately) port;
+          (lately_as s u (recent_other s u w.number [] Derive w.hints refl (ap (λ (x : PortState). x.ring) w.state) (ap (λ (x : PortState). x.mine) w.state)) (λ a h. held_same s u a (ap (λ (x : PortState). x.held) w.state)) (sees_same s u (ap (λ (x : PortState). x.seen) w.state)) p.runs.lately) port;
       cause = (ap (λ (x : PortState). x.ended) w.state, usable_none u (ap (λ (x : PortState). x.refused) w.state ∙ p.refused));
       unset = ap (λ (x : PortState). x.stop) w.state ∙ p.stop;
       tickets = (draws_same s u n (ap tickets_of w.state) p.draws).left;
@@ -517,9 +524,9 @@ empty_refutes start s u n p w log port =
 -- What was learned lately, and lines
 
 -- a lemma
-pub recent_lemma : (s u : PortState) (number : ℕ) (lits : List Literal) → u.ring ≡ s.ring → u.mine ≡ s.mine ++ entry_of s number lits Learn ∷ [] → length (recent u.ring u.mine) ≡ length (recent s.ring s.mine) + 1
-recent_lemma s u number lits ring mine =
-    let x : Addition = record { ring = s.ring; number = number; lits = lits; kind = Learn; hints = [] } in
+pub recent_lemma : (s u : PortState) (number : ℕ) (lits : List Literal) (hints : List ℕ) → u.ring ≡ s.ring → u.mine ≡ s.mine ++ entry_of s number lits Learn hints ∷ [] → length (recent u.ring u.mine) ≡ length (recent s.ring s.mine) + 1
+recent_lemma s u number lits hints ring mine =
+    let x : Addition = record { ring = s.ring; number = number; lits = lits; kind = Learn; hints = hints } in
     let is = ap (λ (r : ℕ). length (recent r u.mine)) ring ∙ ap (λ (J : List Entry). length (recent s.ring J)) mine ∙ ap (λ (cs : List (List Literal)). length cs) (recent_added s.ring s.mine x) in
     let both = length-append (recent s.ring s.mine) (learned s.ring (Add x ∷ [])) in
     let one = one_learned s.ring x refl refl in
@@ -530,7 +537,7 @@ wrote_none s = record {
   recent = refl;
   reduced = refl;
   grown = grown_none s s refl;
-  stays = record { start = refl; opening = refl; vars = refl; ring = refl; rings = refl; depth = refl; polled = omega arith; limit = refl; home = refl; log = λ o h. h };
+  stays = record { start = refl; opening = refl; vars = refl; ring = refl; rings = refl; depth = refl; polled = omega arith; limit = refl; home = refl; hinted = refl; log = λ o h. h };
   taken = refl;
   held = refl;
   own = λ cs p. p;
@@ -555,9 +562,9 @@ wrote_by s u w p q = record {
 
 pub wrote_unit : (s u : PortState) (l : Literal) → WroteUnit s u l UnitLine s.last → KeepsLog s u → OnlyWrote s u
 wrote_unit s u l w log = record {
-  recent = recent_other s u w.number (l ∷ []) UnitLine refl (ap (λ (x : PortState). x.ring) w.state) (ap (λ (x : PortState). x.mine) w.state);
-  reduced = reductions_other s u (record { ring = s.ring; number = w.number; lits = l ∷ []; kind = UnitLine; hints = [] }) (ap (λ (x : PortState). x.ring) w.state) (ap (λ (x : PortState). x.mine) w.state);
-  grown = (entry_of s w.number (l ∷ []) UnitLine ∷ [], ap (λ (x : PortState). x.mine) w.state);
+  recent = recent_other s u w.number (l ∷ []) UnitLine w.hints refl (ap (λ (x : PortState). x.ring) w.state) (ap (λ (x : PortState). x.mine) w.state);
+  reduced = reductions_other s u (record { ring = s.ring; number = w.number; lits = l ∷ []; kind = UnitLine; hints = w.hints }) (ap (λ (x : PortState). x.ring) w.state) (ap (λ (x : PortState). x.mine) w.state);
+  grown = (entry_of s w.number (l ∷ []) UnitLine w.hints ∷ [], ap (λ (x : PortState). x.mine) w.state);
   stays = stays_unit s u l UnitLine s.last w log;
   taken = ap (λ (x : PortState). x.taken) w.state;
   held = ap (λ (x : PortState). x.held) w.state;
@@ -583,6 +590,7 @@ marked_wrote s u k n ticket found is log = record {
     polled = omega (arith, ap (λ (x : PortState). x.polled) is);
     limit = ap (λ (x : PortState). x.limit) is;
     home = ap (λ (x : PortState). x.home) is;
+    hinted = ap (λ (x : PortState). x.hinted) is;
     log = log;
   };
   taken = ap (λ (x : PortState). x.taken) is;
@@ -630,6 +638,7 @@ runs_stopped start s u n stop p is log port =
       polled = omega (arith, ap (λ (x : PortState). x.polled) is);
       limit = ap (λ (x : PortState). x.limit) is;
       home = ap (λ (x : PortState). x.home) is;
+      hinted = ap (λ (x : PortState). x.hinted) is;
       log = log;
     } in
     runs_same start s u n p stays (ap (λ (x : PortState). x.held) is) (sees_same s u (ap (λ (x : PortState). x.seen) is)) (ap (λ (x : PortState). x.mine) is) (lines_moved s u s.mine stays (ap (λ (x : PortState). x.given) is) (ap (λ (x : PortState). x.mine) is) p.new_lines) port

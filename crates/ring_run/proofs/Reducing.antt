@@ -96,6 +96,7 @@ module _ (s u : PortState) (w : NotedReduce s u) where
     polled = omega (arith, ap (λ (x : PortState). x.polled) w.state);
     limit = ap (λ (x : PortState). x.limit) w.state;
     home = ap (λ (x : PortState). x.home) w.state;
+    hinted = ap (λ (x : PortState). x.hinted) w.state;
     log = log;
   }
 
@@ -223,6 +224,7 @@ module _ (s u : PortState) (dropped lemmas : List Cref) (gone : DroppedAll s u d
     polled = omega (arith, ap (λ (x : PortState). x.polled) gone.state);
     limit = ap (λ (x : PortState). x.limit) gone.state;
     home = ap (λ (x : PortState). x.home) gone.state;
+    hinted = ap (λ (x : PortState). x.hinted) gone.state;
     log = log;
   }
 

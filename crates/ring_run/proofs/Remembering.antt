@@ -202,7 +202,7 @@ remembered_entry s u cs ds x ring mine stay into more own unit p = record {
 
 pub unit_remembered : (s u : PortState) (l : Literal) (kind : Kind) (last : Option ℕ) → WroteUnit s u l kind last → (cs : List Cref) → Remembers s cs → Remembers u cs
 unit_remembered s u l kind last w cs p =
-    let x : Addition = record { ring = s.ring; number = w.number; lits = l ∷ []; kind = kind; hints = [] } in
+    let x : Addition = record { ring = s.ring; number = w.number; lits = l ∷ []; kind = kind; hints = w.hints } in
     let seen : has u.seen l ≡ true = w.sees l ∙ or_right (has s.seen l) (same l l) (same-refl l) in
     remembered_entry s u cs cs x (ap (λ (y : PortState). y.ring) w.state) (ap (λ (y : PortState). y.mine) w.state)
     (λ c there. ap (λ (f : Lits). f c.address) (lits_same s u (ap (λ (y : PortState). y.held) w.state))) (λ c there. there)
@@ -214,7 +214,7 @@ unit_remembered s u l kind last w cs p =
 pub added_seen : (s u : PortState) (l : Literal) (kind : Kind) (last : Option ℕ) → WroteUnit s u l kind last → ((k : Literal) → adds_unit s.ring s.mine k ≡ true → has s.seen k ≡ true)
     → (k : Literal) → adds_unit u.ring u.mine k ≡ true → has u.seen k ≡ true
 added_seen s u l kind last w p k h =
-    let x : Addition = record { ring = s.ring; number = w.number; lits = l ∷ []; kind = kind; hints = [] } in
+    let x : Addition = record { ring = s.ring; number = w.number; lits = l ∷ []; kind = kind; hints = w.hints } in
     let ring = ap (λ (y : PortState). y.ring) w.state in
     let mine = ap (λ (y : PortState). y.mine) w.state in
     elim (unit_cases s.ring s.mine x k (ap (λ (r : ℕ). adds_unit r (s.mine ++ Add x ∷ []) k) (sym ring) ∙ ap (λ (J : List Entry). adds_unit u.ring J k) (sym mine) ∙ h)) as (λ _. has u.seen k ≡ true) [
@@ -224,7 +224,7 @@ added_seen s u l kind last w p k h =
 
 pub clause_remembered : (s u : PortState) (lits : List Literal) (glue : ℕ) (c : Cref) (cs : List Cref) → distinct_lits lits ≡ true → LearnedClause s u lits glue c → LitsStay s u cs → Remembers s cs → Remembers u (cs ++ c ∷ [])
 clause_remembered s u lits glue c cs distinct w stay p =
-    let x : Addition = record { ring = s.ring; number = w.number; lits = lits; kind = Learn; hints = [] } in
+    let x : Addition = record { ring = s.ring; number = w.number; lits = lits; kind = Learn; hints = w.hints } in
     let ds = cs ++ c ∷ [] in
     remembered_entry s u cs ds x (ap (λ (y : PortState). y.ring) w.state) (ap (λ (y : PortState). y.mine) w.state) stay
     (λ d there. In_Contains ds d (In_append_left cs (c ∷ []) d (Contains_In cs d there)))

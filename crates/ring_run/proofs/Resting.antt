@@ -144,10 +144,10 @@ module _ (s u : PortState) (v w : WatchData) (c : Cref) (left : Option Cref) (li
     }
 
 -- the units that the ring added are seen, after a shorter clause and after a unit
-pub derived_units : (s u : PortState) (lits : List Literal) (number : ℕ) → Behind s u (entry_of s number lits Derive) → 2 ≤ length lits → distinct_lits lits ≡ true → u.seen ≡ s.seen
+pub derived_units : (s u : PortState) (lits : List Literal) (number : ℕ) (hints : List ℕ) → Behind s u (entry_of s number lits Derive hints) → 2 ≤ length lits → distinct_lits lits ≡ true → u.seen ≡ s.seen
     → ((l : Literal) → adds_unit s.ring s.mine l ≡ true → has s.seen l ≡ true) → (l : Literal) → adds_unit u.ring u.mine l ≡ true → has u.seen l ≡ true
-derived_units s u lits number b long distinct seen units l h =
-    let x : Addition = record { ring = s.ring; number = number; lits = lits; kind = Derive; hints = [] } in
+derived_units s u lits number hints b long distinct seen units l h =
+    let x : Addition = record { ring = s.ring; number = number; lits = lits; kind = Derive; hints = hints } in
     elim (unit_cases s.ring s.mine x l (ap (λ (r : ℕ). adds_unit r (s.mine ++ Add x ∷ []) l) (sym b.ring) ∙ ap (λ (J : List Entry). adds_unit u.ring J l) (sym b.mine) ∙ h)) as (λ _. has u.seen l ≡ true) [
       | inl old ↦ ap (λ (ls : List Literal). has ls l) seen ∙ units l old
       | inr new ↦ absurd (no_unit l lits long distinct new)

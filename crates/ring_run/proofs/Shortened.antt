@@ -53,12 +53,13 @@ pub record Behind (s u : PortState) (e : Entry) : Type 0 where
   pub taken : u.taken ≡ s.taken
   pub tickets : tickets_of u ≡ tickets_of s
   pub home : u.home ≡ s.home
+  pub hinted : u.hinted ≡ s.hinted
   pub given : u.given ≡ s.given
   pub looks : u.looks ≡ s.looks
   pub stop : u.stop ≡ s.stop
   pub mine : u.mine ≡ s.mine ++ e ∷ []
 
-added_behind : (s m : PortState) (lits : List Literal) (glue : ℕ) (d : Cref) (w : AddedClause s m lits glue Derive d) → Behind s m (entry_of s w.number lits Derive)
+added_behind : (s m : PortState) (lits : List Literal) (glue : ℕ) (d : Cref) (w : AddedClause s m lits glue Derive d) → Behind s m (entry_of s w.number lits Derive w.hints)
 added_behind s m lits glue d w = record {
   start = ap (λ (x : PortState). x.start) w.state;
   opening = ap (λ (x : PortState). x.opening) w.state;
@@ -74,13 +75,14 @@ added_behind s m lits glue d w = record {
   taken = ap (λ (x : PortState). x.taken) w.state;
   tickets = ap tickets_of w.state;
   home = ap (λ (x : PortState). x.home) w.state;
+  hinted = ap (λ (x : PortState). x.hinted) w.state;
   given = ap (λ (x : PortState). x.given) w.state;
   looks = ap (λ (x : PortState). x.looks) w.state;
   stop = ap (λ (x : PortState). x.stop) w.state;
   mine = ap (λ (x : PortState). x.mine) w.state;
 }
 
-unit_behind : (s m : PortState) (l : Literal) (last : Option ℕ) (w : WroteUnit s m l UnitLine last) → Behind s m (entry_of s w.number (l ∷ []) UnitLine)
+unit_behind : (s m : PortState) (l : Literal) (last : Option ℕ) (w : WroteUnit s m l UnitLine last) → Behind s m (entry_of s w.number (l ∷ []) UnitLine w.hints)
 unit_behind s m l last w = record {
   start = ap (λ (x : PortState). x.start) w.state;
   opening = ap (λ (x : PortState). x.opening) w.state;
@@ -96,6 +98,7 @@ unit_behind s m l last w = record {
   taken = ap (λ (x : PortState). x.taken) w.state;
   tickets = ap tickets_of w.state;
   home = ap (λ (x : PortState). x.home) w.state;
+  hinted = ap (λ (x : PortState). x.hinted) w.state;
   given = ap (λ (x : PortState). x.given) w.state;
   looks = ap (λ (x : PortState). x.looks) w.state;
   stop = ap (λ (x : PortState). x.stop) w.state;
@@ -118,6 +121,7 @@ dropped_behind s m u e a b w = record {
   taken = ap (λ (x : PortState). x.taken) w.state ∙ b.taken;
   tickets = ap tickets_of w.state ∙ b.tickets;
   home = ap (λ (x : PortState). x.home) w.state ∙ b.home;
+  hinted = ap (λ (x : PortState). x.hinted) w.state ∙ b.hinted;
   given = ap (λ (x : PortState). x.given) w.state ∙ b.given;
   looks = ap (λ (x : PortState). x.looks) w.state ∙ b.looks;
   stop = ap (λ (x : PortState). x.stop) w.state ∙ b.stop;
@@ -140,6 +144,7 @@ same_behind s m u e b q = record {
   taken = q.taken ∙ b.taken;
   tickets = q.tickets ∙ b.tickets;
   home = q.home ∙ b.home;
+  hinted = q.hinted ∙ b.hinted;
   given = q.given ∙ b.given;
   looks = q.looks ∙ b.looks;
   stop = q.stop ∙ b.stop;
@@ -157,6 +162,7 @@ behind_stays s u e b log = record {
   polled = omega (arith, b.polled);
   limit = limit_same s u b.tickets;
   home = b.home;
+  hinted = b.hinted;
   log = log;
 }
 
@@ -207,20 +213,20 @@ left_clause s v steps c port held =
     part_clause s c.address (left_at s (attached v) steps c.address) port held (left_part G (lits_at s c.address)) (λ d. left_distinct G (lits_at s c.address) d)
 
 -- a shorter clause was derived
-derived_runs : (start s u : PortState) (n number : ℕ) (lits : List Literal) → GoesOn start s n → Behind s u (entry_of s number lits Derive) → KeepsLog s u → HoldsStart u → IsClause s.vars lits → 2 ≤ length lits → (1 ≤ reductions s.ring s.mine) × (recent s.ring s.mine ≡ []) → AddsGlued s u → IsPort u → Runs start u n
-derived_runs start s u n number lits p b log held clause long time glued port =
-    let x : Addition = record { ring = s.ring; number = number; lits = lits; kind = Derive; hints = [] } in
-    runs_entry start s u n n (entry_of s number lits Derive) p.runs (behind_stays s u (entry_of s number lits Derive) b log) held b.mine
+derived_runs : (start s u : PortState) (n number : ℕ) (lits : List Literal) (hints : List ℕ) → GoesOn start s n → Behind s u (entry_of s number lits Derive hints) → KeepsLog s u → HoldsStart u → IsClause s.vars lits → 2 ≤ length lits → (1 ≤ reductions s.ring s.mine) × (recent s.ring s.mine ≡ []) → AddsGlued s u → IsPort u → Runs start u n
+derived_runs start s u n number lits hints p b log held clause long time glued port =
+    let x : Addition = record { ring = s.ring; number = number; lits = lits; kind = Derive; hints = hints } in
+    runs_entry start s u n n (entry_of s number lits Derive hints) p.runs (behind_stays s u (entry_of s number lits Derive hints) b log) held b.mine
     (p.runs.stays.ring, subst (λ (v : ℕ). All (IsOn v) lits) p.runs.stays.vars clause.on, inr long)
-    (omega (arith, not_learned s.ring x refl)) (λ learns. absurd (false≢true learns)) b.given (λ is_line. absurd (false≢true is_line)) (λ two. time) glued (lately_none u (recent_other s u number lits Derive refl b.ring b.mine ∙ time.1)) port
+    (omega (arith, not_learned s.ring x refl)) (λ learns. absurd (false≢true learns)) b.given (λ is_line. absurd (false≢true is_line)) (λ two. time) glued (lately_none u (recent_other s u number lits Derive hints refl b.ring b.mine ∙ time.1)) port
 
 -- the line of a unit was written
-unit_runs : (start s u : PortState) (n number : ℕ) (l : Literal) → GoesOn start s n → Behind s u (entry_of s number (l ∷ []) UnitLine) → KeepsLog s u → HoldsStart u → IsOn s.vars l → UnitsSeen s → has s.seen l ≡ false → recent s.ring s.mine ≡ [] → AddsGlued s u → IsPort u → Runs start u n
-unit_runs start s u n number l p b log held on units unseen none glued port =
-    let x : Addition = record { ring = s.ring; number = number; lits = l ∷ []; kind = UnitLine; hints = [] } in
-    runs_entry start s u n n (entry_of s number (l ∷ []) UnitLine) p.runs (behind_stays s u (entry_of s number (l ∷ []) UnitLine) b log) held b.mine
+unit_runs : (start s u : PortState) (n number : ℕ) (l : Literal) (hints : List ℕ) → GoesOn start s n → Behind s u (entry_of s number (l ∷ []) UnitLine hints) → KeepsLog s u → HoldsStart u → IsOn s.vars l → UnitsSeen s → has s.seen l ≡ false → recent s.ring s.mine ≡ [] → AddsGlued s u → IsPort u → Runs start u n
+unit_runs start s u n number l hints p b log held on units unseen none glued port =
+    let x : Addition = record { ring = s.ring; number = number; lits = l ∷ []; kind = UnitLine; hints = hints } in
+    runs_entry start s u n n (entry_of s number (l ∷ []) UnitLine hints) p.runs (behind_stays s u (entry_of s number (l ∷ []) UnitLine hints) b log) held b.mine
     (p.runs.stays.ring, subst (λ (v : ℕ). All (IsOn v) (l ∷ [])) p.runs.stays.vars (All-cons (IsOn s.vars) l [] on (All-nil (IsOn s.vars))), refl)
-    (omega (arith, not_learned s.ring x refl)) (λ learns. absurd (false≢true learns)) b.given (new_line s l number units p.runs.port unseen) tt glued (lately_none u (recent_other s u number (l ∷ []) UnitLine refl b.ring b.mine ∙ none)) port
+    (omega (arith, not_learned s.ring x refl)) (λ learns. absurd (false≢true learns)) b.given (new_line s l number hints units p.runs.port unseen) tt glued (lately_none u (recent_other s u number (l ∷ []) UnitLine hints refl b.ring b.mine ∙ none)) port
 
 module _ (s u : PortState) (v : WatchData) (steps : List TrailStep) (c : Cref) (port : IsPort s) (held : IsSome (held_at s c.address)) (some : 1 ≤ glue_at s c.address)
     (time : (1 ≤ reductions s.ring s.mine) × (recent s.ring s.mine ≡ []))
@@ -228,16 +234,16 @@ module _ (s u : PortState) (v : WatchData) (steps : List TrailStep) (c : Cref) (
   abbrev left : List Literal
   left = left_at s (attached v) steps c.address
 
-  pub shorter_behind : (w : WatchData) (d : Cref) (z : WasShortened s u v w steps c d) → Behind s u (entry_of s z.derived.number left Derive)
-  shorter_behind w d z = dropped_behind s z.middle u (entry_of s z.derived.number left Derive) c.address (added_behind s z.middle left (min (glue_at s c.address) (length left - 1)) d z.derived) z.dropped
+  pub shorter_behind : (w : WatchData) (d : Cref) (z : WasShortened s u v w steps c d) → Behind s u (entry_of s z.derived.number left Derive z.derived.hints)
+  shorter_behind w d z = dropped_behind s z.middle u (entry_of s z.derived.number left Derive z.derived.hints) c.address (added_behind s z.middle left (min (glue_at s c.address) (length left - 1)) d z.derived) z.dropped
 
   pub shorter_keeps : (w : WatchData) (d : Cref) → WasShortened s u v w steps c d → KeepsOn s u
   shorter_keeps w d z start n p =
-      let e : Entry = entry_of s z.derived.number left Derive in
+      let e : Entry = entry_of s z.derived.number left Derive z.derived.hints in
       let b = shorter_behind w d z in
       let starts = starts_left s u c others apart b.start p.held in
       record {
-        runs = derived_runs start s u n z.derived.number left p b log starts (left_clause s v steps c port held) z.derived.long time
+        runs = derived_runs start s u n z.derived.number left z.derived.hints p b log starts (left_clause s v steps c port held) z.derived.long time
             (λ h there. derived_glued s z.middle left (glue_at s c.address) d z.derived some h (dropped_less z.middle u c.address z.dropped h there)) port_then;
         draws = draws_same s u n b.tickets p.draws;
         going = going_more s u e b.mine p.going (some_literal left (omega (arith, z.derived.long)));
@@ -246,8 +252,8 @@ module _ (s u : PortState) (v : WatchData) (steps : List TrailStep) (c : Cref) (
         held = starts;
       }
 
-  pub became_behind : (w : WatchData) (l : Literal) (z : BecameUnit s u v w steps c l) → Behind s u (entry_of s z.wrote.number (l ∷ []) UnitLine)
-  became_behind w l z = dropped_behind s z.middle u (entry_of s z.wrote.number (l ∷ []) UnitLine) c.address (unit_behind s z.middle l s.last z.wrote) z.dropped
+  pub became_behind : (w : WatchData) (l : Literal) (z : BecameUnit s u v w steps c l) → Behind s u (entry_of s z.wrote.number (l ∷ []) UnitLine z.wrote.hints)
+  became_behind w l z = dropped_behind s z.middle u (entry_of s z.wrote.number (l ∷ []) UnitLine z.wrote.hints) c.address (unit_behind s z.middle l s.last z.wrote) z.dropped
 
   pub unit_on : (l : Literal) → left ≡ l ∷ [] → IsOn s.vars l
   unit_on l is = subst (All (IsOn s.vars)) is (left_clause s v steps c port held).on 0 l (omega arith)
@@ -257,11 +263,11 @@ module _ (s u : PortState) (v : WatchData) (steps : List TrailStep) (c : Cref) (
 
   pub became_keeps : (w : WatchData) (l : Literal) → BecameUnit s u v w steps c l → UnitsSeen s → has s.seen l ≡ false → KeepsOn s u
   became_keeps w l z units unseen start n p =
-      let e : Entry = entry_of s z.wrote.number (l ∷ []) UnitLine in
+      let e : Entry = entry_of s z.wrote.number (l ∷ []) UnitLine z.wrote.hints in
       let b = became_behind w l z in
       let starts = starts_left s u c others apart b.start p.held in
       record {
-        runs = unit_runs start s u n z.wrote.number l p b log starts (unit_on l z.left) units unseen time.1
+        runs = unit_runs start s u n z.wrote.number l z.wrote.hints p b log starts (unit_on l z.left) units unseen time.1
             (λ h there. unit_glued z.middle l z.wrote h (dropped_less z.middle u c.address z.dropped h there)) port_then;
         draws = draws_same s u n b.tickets p.draws;
         going = going_more s u e b.mine p.going refl;
@@ -283,10 +289,10 @@ module _ (s u : PortState) (v : WatchData) (steps : List TrailStep) (c : Cref) (
         by m (inr (inl k)) r n start p =
             let same = refused_same m r in
             let first = added_behind s m left (min (glue_at s c.address) (length left - 1)) k.0 k.1 in
-            let e : Entry = entry_of s k.1.number left Derive in
+            let e : Entry = entry_of s k.1.number left Derive k.1.hints in
             let b = same_behind s m u e first same in
             record {
-              runs = derived_runs start s u n k.1.number left p b log (starts_left s u c others apart b.start p.held) (left_clause s v steps c port held) k.1.long time
+              runs = derived_runs start s u n k.1.number left k.1.hints p b log (starts_left s u c others apart b.start p.held) (left_clause s v steps c port held) k.1.long time
                   (λ h there. derived_glued s m left (glue_at s c.address) k.0 k.1 some h (subst (λ (hs : List Holding). Contains hs h) same.held there)) port_then;
               cause = subst (λ (x : PortState). Cause x (end_refused stop)) (sym r.state) (refused_cause m u.output stop r.reason (usable_none m (ap (λ (x : PortState). x.refused) k.1.state ∙ p.refused))
                   (going_more s m e first.mine p.going (some_literal left (omega (arith, k.1.long)))));
@@ -299,10 +305,10 @@ module _ (s u : PortState) (v : WatchData) (steps : List TrailStep) (c : Cref) (
             let l = k.0 in
             let w = k.2 in
             let first = unit_behind s m l s.last w in
-            let e : Entry = entry_of s w.number (l ∷ []) UnitLine in
+            let e : Entry = entry_of s w.number (l ∷ []) UnitLine w.hints in
             let b = same_behind s m u e first same in
             record {
-              runs = unit_runs start s u n w.number l p b log (starts_left s u c others apart b.start p.held) (unit_on l k.1) units (unseen l k.1) time.1
+              runs = unit_runs start s u n w.number l w.hints p b log (starts_left s u c others apart b.start p.held) (unit_on l k.1) units (unseen l k.1) time.1
                   (λ h there. unit_glued m l w h (subst (λ (hs : List Holding). Contains hs h) same.held there)) port_then;
               cause = subst (λ (x : PortState). Cause x (end_refused stop)) (sym r.state) (refused_cause m u.output stop r.reason (usable_none m (ap (λ (x : PortState). x.refused) w.state ∙ p.refused))
                   (going_more s m e first.mine p.going refl));
@@ -334,14 +340,14 @@ module _ (s u : PortState) (v : WatchData) (steps : List TrailStep) (c : Cref) (
               same.start ∙ ap (λ (x : PortState). x.start) is,
             )
         by m (inr (inl k)) r =
-            let b = same_behind s m u (entry_of s k.1.number left Derive) (added_behind s m left (min (glue_at s c.address) (length left - 1)) k.0 k.1) (refused_same m r) in
-            (behind_nothing s u (record { ring = s.ring; number = k.1.number; lits = left; kind = Derive; hints = [] }) b refl, b.looks, b.start)
+            let b = same_behind s m u (entry_of s k.1.number left Derive k.1.hints) (added_behind s m left (min (glue_at s c.address) (length left - 1)) k.0 k.1) (refused_same m r) in
+            (behind_nothing s u (record { ring = s.ring; number = k.1.number; lits = left; kind = Derive; hints = k.1.hints }) b refl, b.looks, b.start)
         by m (inr (inr k)) r =
-            let b = same_behind s m u (entry_of s k.2.number (k.0 ∷ []) UnitLine) (unit_behind s m k.0 s.last k.2) (refused_same m r) in
-            (behind_nothing s u (record { ring = s.ring; number = k.2.number; lits = k.0 ∷ []; kind = UnitLine; hints = [] }) b refl, b.looks, b.start)
+            let b = same_behind s m u (entry_of s k.2.number (k.0 ∷ []) UnitLine k.2.hints) (unit_behind s m k.0 s.last k.2) (refused_same m r) in
+            (behind_nothing s u (record { ring = s.ring; number = k.2.number; lits = k.0 ∷ []; kind = UnitLine; hints = k.2.hints }) b refl, b.looks, b.start)
 
-pub shorter_nothing : (s u : PortState) (lits : List Literal) (number : ℕ) → Behind s u (entry_of s number lits Derive) → OffersNothing s u
-shorter_nothing s u lits number b = behind_nothing s u (record { ring = s.ring; number = number; lits = lits; kind = Derive; hints = [] }) b refl
+pub shorter_nothing : (s u : PortState) (lits : List Literal) (number : ℕ) (hints : List ℕ) → Behind s u (entry_of s number lits Derive hints) → OffersNothing s u
+shorter_nothing s u lits number hints b = behind_nothing s u (record { ring = s.ring; number = number; lits = lits; kind = Derive; hints = hints }) b refl
 
-pub became_nothing : (s u : PortState) (l : Literal) (number : ℕ) → Behind s u (entry_of s number (l ∷ []) UnitLine) → OffersNothing s u
-became_nothing s u l number b = behind_nothing s u (record { ring = s.ring; number = number; lits = l ∷ []; kind = UnitLine; hints = [] }) b refl
+pub became_nothing : (s u : PortState) (l : Literal) (number : ℕ) (hints : List ℕ) → Behind s u (entry_of s number (l ∷ []) UnitLine hints) → OffersNothing s u
+became_nothing s u l number hints b = behind_nothing s u (record { ring = s.ring; number = number; lits = l ∷ []; kind = UnitLine; hints = hints }) b refl

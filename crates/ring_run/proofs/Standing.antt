@@ -29,7 +29,7 @@ use Rattle.ring_trail.proofs.Causes.{IsReasoned-seen, IsReasoned-held}
 use Rattle.watch_prop.specs.Propagation.{attached_at, HasReasons}
 use Rattle.watch_prop.proofs.TrailLaws.{Reasons-more}
 use Rattle.ring_port.specs.PortState.{clause_at}
-use Rattle.ring_run.specs.Searching.{OnlySaw, OpeningSeen, Stands}
+use Rattle.ring_run.specs.Searching.{IsOpposed, OnlySaw, OpeningSeen, Stands}
 use Rattle.ring_run.proofs.LevelZero.{false_at_zero}
 use Rattle.ring_run.proofs.Remembering.{HoldsAlike, held_same, clause_alike, clause_at_same}
 use Rattle.ring_run.proofs.Told.{or_none, or_assoc}
@@ -99,13 +99,13 @@ sees_new old new l sees = sees l ∙ or_right (has old l) (same l l) (same-refl 
 
 -- nothing but what is seen, given and yet to come has changed, and how many looks found no more
 abbrev OnlySeen : PortState → PortState → Type 0
-OnlySeen s u = u ≡ record s { seen = u.seen; given = u.given; coming = u.coming; kept = u.kept; caught_up = u.caught_up }
+OnlySeen s u = u ≡ record s { seen = u.seen; told = u.told; given = u.given; coming = u.coming; kept = u.kept; caught_up = u.caught_up }
 
 unit_alone : (u w : PortState) (l : Literal) → TookUnit u w l → OnlySeen u w
-unit_alone u w l took = subst (OnlySeen u) (sym took.state) (of w.seen w.coming)
+unit_alone u w l took = subst (OnlySeen u) (sym took.state) (of w.seen w.told w.coming)
   where
-    of : (seen : List Literal) (coming : ℕ) → OnlySeen u (record u { seen = seen; given = u.given ++ l ∷ []; coming = coming; kept = u.kept - 1 })
-    of seen coming = refl
+    of : (seen : List Literal) (told : List (Literal × ℕ)) (coming : ℕ) → OnlySeen u (record u { seen = seen; told = told; given = u.given ++ l ∷ []; coming = coming; kept = u.kept - 1 })
+    of seen told coming = refl
 
 look_alone : (u w : PortState) → TookNone u w → OnlySeen u w
 look_alone u w took = subst (OnlySeen u) (sym took.state) of
@@ -114,7 +114,7 @@ look_alone u w took = subst (OnlySeen u) (sym took.state) of
     of = refl
 
 alone_then : (s u w : PortState) → OnlySeen s u → OnlySeen u w → OnlySeen s w
-alone_then s u w p q = q ∙ ap (λ (x : PortState). record x { seen = w.seen; given = w.given; coming = w.coming; kept = w.kept; caught_up = w.caught_up }) p
+alone_then s u w p q = q ∙ ap (λ (x : PortState). record x { seen = w.seen; told = w.told; given = w.given; coming = w.coming; kept = w.kept; caught_up = w.caught_up }) p
 
 -- one more came
 came_more : (came : List Literal) (l k : Literal) → has (came ++ l ∷ []) k ≡ (has came k || same l k)
@@ -122,7 +122,7 @@ came_more came l k = list_any-append (same k) came (l ∷ []) ∙ ap (λ (b : Bo
 
 pub saw_begin : (s : PortState) → OnlySaw s s
 saw_begin s = record {
-  stays = record { start = refl; opening = refl; vars = refl; ring = refl; rings = refl; depth = refl; polled = omega arith; limit = refl; home = refl; log = λ o h. h };
+  stays = record { start = refl; opening = refl; vars = refl; ring = refl; rings = refl; depth = refl; polled = omega arith; limit = refl; home = refl; hinted = refl; log = λ o h. h };
   shared = refl;
   polled = refl;
   polls = refl;
@@ -155,6 +155,7 @@ saw_more s u w l p took log =
         polled = omega (arith, ap (λ (x : PortState). x.polled) took.state, p.stays.polled);
         limit = ap (λ (x : PortState). x.limit) took.state ∙ p.stays.limit;
         home = ap (λ (x : PortState). x.home) took.state ∙ p.stays.home;
+        hinted = ap (λ (x : PortState). x.hinted) took.state ∙ p.stays.hinted;
         log = λ o h. log o (p.stays.log o h);
       };
       shared = ap (λ (x : PortState). x.shared) took.state ∙ p.shared;
@@ -189,6 +190,7 @@ saw_none s u w p took log = record {
     polled = omega (arith, ap (λ (x : PortState). x.polled) took.state, p.stays.polled);
     limit = ap (λ (x : PortState). x.limit) took.state ∙ p.stays.limit;
     home = ap (λ (x : PortState). x.home) took.state ∙ p.stays.home;
+    hinted = ap (λ (x : PortState). x.hinted) took.state ∙ p.stays.hinted;
     log = λ o h. log o (p.stays.log o h);
   };
   shared = ap (λ (x : PortState). x.shared) took.state ∙ p.shared;
@@ -270,16 +272,22 @@ reasons_taken cs u w t l took zero_level r =
     IsReasoned-seen (attached_at cs w) w.seen t l None (reasons_seen cs u w t.steps l took r) zero_level (sees_new u.seen w.seen l took.sees)
 
 -- a unit that is false at level 0
-pub opposed : (u w : PortState) (t : TrailData) (l : Literal) → Stands u t → TookUnit u w l → IsTrail t → t.level ≡ 0 → IsFalseOn t.steps l → rup (known w) [] ≡ true
-opposed u w t l p took shape zero_level bad =
-    false_at_zero w t.steps (length t.steps) (l ∷ [])
-    (reasoned_more u w t.steps (ap (λ (y : PortState). y.held) took.state) (λ k h. sees_old u.seen w.seen l k took.sees h) p.reasoned)
-    (omega arith) (λ q h. (let within = shape.within q h in omega arith))
-    (seen_is_known w l (sees_new u.seen w.seen l took.sees))
-    (λ k h. elim (or_cases (same k l) false h) as (λ _. FalseBefore t.steps (length t.steps) k) [
-      | inl e ↦ subst (FalseBefore t.steps (length t.steps)) (sym (same-true k l e)) bad
-      | inr none ↦ absurd (false≢true none)
-    ])
+pub opposed : (u w : PortState) (t : TrailData) (l : Literal) → Stands u t → TookUnit u w l → IsTrail t → t.level ≡ 0 → IsFalseOn t.steps l → IsOpposed w t l
+opposed u w t l p took shape zero_level bad = record {
+  reasoned = reasoned;
+  seen = sees_new u.seen w.seen l took.sees;
+  false_there = bad;
+  implied = false_at_zero w t.steps (length t.steps) (l ∷ []) reasoned
+      (omega arith) (λ q h. (let within = shape.within q h in omega arith))
+      (seen_is_known w l (sees_new u.seen w.seen l took.sees))
+      (λ k h. elim (or_cases (same k l) false h) as (λ _. FalseBefore t.steps (length t.steps) k) [
+        | inl e ↦ subst (FalseBefore t.steps (length t.steps)) (sym (same-true k l e)) bad
+        | inr none ↦ absurd (false≢true none)
+      ]);
+}
+  where
+    reasoned : IsReasoned (clause_at w) w.seen t.steps
+    reasoned = reasoned_more u w t.steps (ap (λ (y : PortState). y.held) took.state) (λ k h. sees_old u.seen w.seen l k took.sees h) p.reasoned
 
 -- a unit that has come is on the trail's variables
 pub took_on : (u w : PortState) (t : TrailData) (l : Literal) → Stands u t → TookUnit u w l → IsPort w → l.var ≤ t.vars

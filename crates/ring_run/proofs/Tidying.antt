@@ -80,6 +80,7 @@ record Deleted (s u : PortState) (hs : List Holding) : Type 0 where
   pub taken : u.taken ≡ s.taken
   pub tickets : tickets_of u ≡ tickets_of s
   pub home : u.home ≡ s.home
+  pub hinted : u.hinted ≡ s.hinted
   pub given : u.given ≡ s.given
   pub seen : u.seen ≡ s.seen
   pub looks : u.looks ≡ s.looks
@@ -103,6 +104,7 @@ deleted_eta s waiting hs output = record {
   taken = refl;
   tickets = refl;
   home = refl;
+  hinted = refl;
   given = refl;
   seen = refl;
   looks = refl;
@@ -130,6 +132,7 @@ deleted_then s m u hs p q = record {
   taken = q.taken ∙ p.taken;
   tickets = q.tickets ∙ p.tickets;
   home = q.home ∙ p.home;
+  hinted = q.hinted ∙ p.hinted;
   given = q.given ∙ p.given;
   seen = q.seen ∙ p.seen;
   looks = q.looks ∙ p.looks;
@@ -157,6 +160,7 @@ module _ (s u : PortState) (hs : List Holding) (d : Deleted s u hs) (log : Keeps
     polled = omega (arith, d.polled);
     limit = limit_same s u d.tickets;
     home = d.home;
+    hinted = d.hinted;
     log = log;
   }
 

@@ -46,16 +46,16 @@ units_none s = record {
 
 units_one : (s u : PortState) (l : Literal) → WroteUnit s u l UnitLine s.last → ToldUnits s u
 units_one s u l w =
-    let e : Entry = entry_of s w.number (l ∷ []) UnitLine in
+    let e : Entry = entry_of s w.number (l ∷ []) UnitLine w.hints in
     let mine : u.mine ≡ s.mine ++ e ∷ [] = ap (λ (x : PortState). x.mine) w.state in
     record {
       entries = e ∷ [];
       units = All-cons (IsLineOfUnit s.ring) e [] (refl, refl, refl) (All-nil (IsLineOfUnit s.ring));
       mine = mine;
-      sees = λ k. w.sees k ∙ ap (λ (b : Bool). has s.seen k || b) (sym (adds_one s.ring (record { ring = s.ring; number = w.number; lits = l ∷ []; kind = UnitLine; hints = [] }) l k refl refl));
+      sees = λ k. w.sees k ∙ ap (λ (b : Bool). has s.seen k || b) (sym (adds_one s.ring (record { ring = s.ring; number = w.number; lits = l ∷ []; kind = UnitLine; hints = w.hints }) l k refl refl));
       looked = w.looked;
       idle = λ none. absurd (some_line e [] none);
-      state = w.state ∙ ap (λ (J : List Entry). record s { seen = u.seen; kept = u.kept; caught_up = u.caught_up; mine = J; output = u.output }) (sym mine);
+      state = w.state ∙ ap (λ (J : List Entry). record s { seen = u.seen; told = u.told; kept = u.kept; caught_up = u.caught_up; mine = J; output = u.output }) (sym mine);
     }
 
 pub units_by : (s u : PortState) (l : Literal) (r : Result (Unit {0}) PortStop) → UnitWritten s u l r → OnOk r (ToldUnits s u)
@@ -76,7 +76,7 @@ units_then s m u p q = record {
       let first = p.idle parts.0 in
       let then = q.idle parts.1 in
       (then.0 ∙ first.0, then.1 ∙ first.1));
-  state = q.state ∙ ap (λ (x : PortState). record x { seen = u.seen; kept = u.kept; caught_up = u.caught_up; mine = u.mine; output = u.output }) p.state;
+  state = q.state ∙ ap (λ (x : PortState). record x { seen = u.seen; told = u.told; kept = u.kept; caught_up = u.caught_up; mine = u.mine; output = u.output }) p.state;
 }
 
 -- the call was refused

@@ -63,6 +63,7 @@ pub record Stays (old new : PortState) : Type 0 where
   pub polled : min old.polled (2 ^ 64 - 1) ≤ new.polled
   pub limit : new.limit ≡ old.limit
   pub home : new.home ≡ old.home
+  pub hinted : new.hinted ≡ old.hinted
   pub log : KeepsLog old new
 
 -- a clause learned has a literal or more, a unit's line one, and what is derived is the empty clause or has two or more

@@ -99,7 +99,7 @@ pub record OnlySaw (old new : PortState) : Type 0 where
   pub came : List Literal
   pub given : new.given ≡ old.given ++ came
   pub sees : (l : Literal) → has new.seen l ≡ (has old.seen l || has came l)
-  pub state : new ≡ record old { seen = new.seen; given = new.given; coming = new.coming; kept = new.kept; caught_up = new.caught_up }
+  pub state : new ≡ record old { seen = new.seen; told = new.told; given = new.given; coming = new.coming; kept = new.kept; caught_up = new.caught_up }
 
 -- no call has changed more than what is held and taken, and where, when and how often the ring has polled; what was held still is
 pub record OnlyPolled (old new : PortState) : Type 0 where
@@ -139,7 +139,7 @@ pub record ToldUnits (old new : PortState) : Type 0 where
   pub sees : (k : Literal) → has new.seen k ≡ (has old.seen k || adds_unit old.ring entries k)
   pub looked : old.caught_up ≤ new.caught_up
   pub idle : entries ≡ [] → (new.caught_up ≡ old.caught_up) × (new.kept ≡ old.kept)
-  pub state : new ≡ record old { seen = new.seen; kept = new.kept; caught_up = new.caught_up; mine = new.mine; output = new.output }
+  pub state : new ≡ record old { seen = new.seen; told = new.told; kept = new.kept; caught_up = new.caught_up; mine = new.mine; output = new.output }
 
 -- one look found no stop, and after it lines of units may have been written
 abbrev pub HasTold : PortState → PortState → Type 0
@@ -190,10 +190,17 @@ pub record Stands (s : PortState) (t : TrailData) : Type 0 where
   pub reasoned : IsReasoned (clause_at s) s.seen t.steps
   pub seen : SeenTrue s t.steps
 
--- what is seen is true, the units of the opening among it; or the empty clause follows
+-- a unit that is seen is false, so that the empty clause follows
+pub record IsOpposed (s : PortState) (t : TrailData) (unit : Literal) : Type 0 where
+  pub reasoned : IsReasoned (clause_at s) s.seen t.steps
+  pub seen : has s.seen unit ≡ true
+  pub false_there : IsFalseOn t.steps unit
+  pub implied : rup (known s) [] ≡ true
+
+-- what is seen is true, the units of the opening among it; or a unit that is seen is false
 abbrev pub AreTaken : PortState → TrailData → Units → Type 0
 AreTaken s t True = Stands s t × OpeningSeen s
-AreTaken s t Opposed = rup (known s) [] ≡ true
+AreTaken s t (Opposed unit) = IsOpposed s t unit
 
 -- a run that began in one state and stands in another, with as many lemmas as are counted: its entries are of their kinds, new and in
 -- time, and each start clause is held, and each lemma since the last Reduce entry held or seen

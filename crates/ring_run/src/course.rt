@@ -2,6 +2,7 @@
 ghost use Rattle.std.specs.Prelude.{◌≡◌, [], true, None};
 ghost use Rattle.rup_model.specs.Rup.{rup};
 ghost use Rattle.ring_port.specs.PortState.{IsPort, known};
+ghost use Rattle.ring_port.specs.Port.{AreHints};
 ghost use Rattle.ring_run.specs.Ended.{IsHalted, last_looks};
 ghost use Rattle.ring_run.specs.Searching.{OffersNothing};
 ghost use Rattle.ring_run.specs.Ending.{EndsAt, IsRefusal, WroteEmpty, end_refused};
@@ -30,10 +31,11 @@ pub(crate) fn end_refused(stop: PortStop) -> End
     }
 }
 
-/// Writes the empty clause.
-pub(crate) fn refute<P: Port>(port: &mut P) -> End
+/// Writes the empty clause, with the hints that show it.
+pub(crate) fn refute<P: Port>(port: &mut P, hints: &[u64]) -> End
     requires usable { (P.state port.old).refused ≡ None }
     requires rup { rup (known (P.state port.old)) [] ≡ true }
+    requires hints { AreHints (P.state port.old) [] hints.now }
     ensures ends { EndsAt (P.state port.old) (P.state port.new) result }
     ensures held { (P.state port.new).held ≡ (P.state port.old).held }
     ensures looks { (P.state port.new).looks ≡ (P.state port.old).looks }
@@ -44,7 +46,7 @@ pub(crate) fn refute<P: Port>(port: &mut P) -> End
     ensures empty { WroteEmpty (P.state port.old) (P.state port.new) result }
     ensures port { IsPort (P.state port.new) }
 {
-    match port.empty() {
+    match port.empty(hints) {
         Ok(()) => End::Refuted,
         Err(stop) => end_refused(stop),
     }

@@ -19,6 +19,7 @@ use crate::reduction::reduce_vivify_import;
 use crate::ring::Ring;
 use crate::units::write_units;
 use crate::walking::{agrees, end_found};
+use analyze::Analysis;
 use ring_port::{Port, PortStop};
 use ring_trail::Trail;
 use sat_words::Assignment;
@@ -77,8 +78,13 @@ fn decide<P: Port>(alloc: Global, port: &mut P, ring: &mut Ring, model: &Option<
 }
 
 /// Writes the lines of literals that are true without a decision, as far as they have none yet.
-pub(crate) fn write_pending<P: Port>(port: &mut P, ring: &mut Ring) -> Result<(), PortStop>
+pub(crate) fn write_pending<P: Port>(
+    port: &mut P,
+    ring: &mut Ring,
+    analysis: &mut Analysis,
+) -> Result<(), PortStop>
     requires search { InSearch (P.state port.old) ring.old }
+    requires analysis { analysis.old.vars ≡ ring.old.trail.vars }
     ensures ok { OnOk result (KeepsOn (P.state port.old) (P.state port.new)) }
     ensures over { IfErr result (λ stop. EndsAt (P.state port.old) (P.state port.new) (end_refused stop)) }
     ensures halts { IfErr result (λ stop. HaltsTelling (P.state port.old) (P.state port.new) ring.old.trail.steps (end_refused stop)) }
@@ -101,12 +107,13 @@ pub(crate) fn write_pending<P: Port>(port: &mut P, ring: &mut Ring) -> Result<()
     ensures offers { AreSameOffers ring.old ring.new }
     ensures nothing { OffersNothing (P.state port.old) (P.state port.new) }
     ensures decider { ring.new.decider ≡ ring.old.decider }
+    ensures analysis { analysis.new.vars ≡ analysis.old.vars }
     ensures port { IsPort (P.state port.new) }
 {
     if ring.trail.decision_level() != 0 {
         return Ok(());
     }
-    match write_units(port, &ring.trail, ring.written) {
+    match write_units(port, &ring.trail, analysis, ring.written) {
         Ok(()) => {
             ring.written = ring.trail.len();
             Ok(())
@@ -121,6 +128,7 @@ pub(crate) fn decide_next<P: Port>(
     alloc: Global,
     port: &mut P,
     ring: &mut Ring,
+    analysis: &mut Analysis,
     model: &Option<Assignment>,
 ) -> Next
     requires search { InSearch (P.state port.old) ring.old }
@@ -130,6 +138,7 @@ pub(crate) fn decide_next<P: Port>(
     requires polling { IsPolling (P.state port.old) ring.old }
     requires listed { HasLemmas (P.state port.old) ring.old }
     requires found { IsFound (P.state port.old) model.now }
+    requires analysis { analysis.old.vars ≡ ring.old.trail.vars }
     ensures leads { Leads (P.state port.old) ring.old (P.state port.new) ring.new result }
     ensures ended { EndsQuietly (P.state port.old) (P.state port.new) ring.old ring.new result }
     ensures learned { ring.new.learned ≡ ring.old.learned }
@@ -144,17 +153,18 @@ pub(crate) fn decide_next<P: Port>(
     ensures listed { result ≡ Next.Go → HasLemmas (P.state port.new) ring.new }
     ensures active { ring.new.decider.active ≡ ring.old.decider.active }
     ensures looks { KeepsLooking (P.state port.old) ring.old (P.state port.new) ring.new result }
+    ensures analysis { analysis.new.vars ≡ analysis.old.vars }
     ensures port { IsPort (P.state port.new) }
 {
     if let Some(stop) = port.stopped() {
         return Next::Finish(End::Stopped(stop));
     }
-    match write_pending(port, ring) {
+    match write_pending(port, ring, analysis) {
         Ok(()) => {}
         Err(stop) => return Next::Finish(end_refused(stop)),
     }
     if ring.import_due {
-        return reduce_vivify_import(alloc, port, ring);
+        return reduce_vivify_import(alloc, port, ring, analysis);
     }
     decide(alloc, port, ring, model)
 }

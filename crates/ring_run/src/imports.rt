@@ -12,6 +12,7 @@ use crate::course::{Next, refute};
 use crate::job::End;
 use crate::ring::Ring;
 use crate::units::{Units, take_units};
+use analyze::Analysis;
 use ring_port::Port;
 use std::alloc::AllocError;
 
@@ -140,11 +141,13 @@ fn take_clauses<P: Port>(port: &mut P, ring: &mut Ring) -> Result<(), AllocError
     Ok(())
 }
 
-/// Takes what the others have: units, and then clauses, which are attached and listed. No import is yet to be then.
-pub(crate) fn import<P: Port>(port: &mut P, ring: &mut Ring) -> Next
+/// Takes what the others have: units, and then clauses, which are attached and listed. No import is yet to be then. A unit that is
+/// false refutes the clauses.
+pub(crate) fn import<P: Port>(port: &mut P, ring: &mut Ring, analysis: &mut Analysis) -> Next
     requires import { MayImport (P.state port.old) ring.old.trail ring.old.watches ring.old.written }
     requires polling { IsPolling (P.state port.old) ring.old }
     requires import_due { ring.old.import_due ≡ true }
+    requires analysis { analysis.old.vars ≡ ring.old.trail.vars }
     ensures leads { Leads (P.state port.old) ring.old (P.state port.new) ring.new result }
     ensures refused { IsOnOrRefused result }
     ensures halts { HaltsBy (HaltsImporting (P.state port.old) (P.state port.new)) result }
@@ -163,10 +166,14 @@ pub(crate) fn import<P: Port>(port: &mut P, ring: &mut Ring) -> Next
     ensures restarts { ring.new.restarts ≡ ring.old.restarts }
     ensures listed { result ≡ Next.Go → KeepsLemmas (P.state port.old) ring.old (P.state port.new) ring.new }
     ensures decider { ring.new.decider ≡ ring.old.decider }
+    ensures analysis { analysis.new.vars ≡ analysis.old.vars }
     ensures port { IsPort (P.state port.new) }
 {
     match take_units(port, &mut ring.trail) {
-        Units::Opposed => return Next::Finish(refute(port)),
+        Units::Opposed(unit) => {
+            analysis.trace_unit(port, &ring.trail, unit);
+            return Next::Finish(refute(port, analysis.hints()));
+        }
         Units::True => {}
     }
     match take_clauses(port, ring) {

@@ -3,7 +3,7 @@ ghost use Rattle.std.specs.Prelude.{◌≡◌, ◌<◌, ◌≤◌, ◌+◌, ◌+
 ghost use Rattle.std.specs.Option.{option_to_list};
 ghost use Rattle.rup_model.specs.Rup.{rup};
 ghost use Rattle.ring_port.specs.PortState.{IsPort, held_at, known, lits_at};
-ghost use Rattle.ring_port.specs.Port.{IsClause, IsFreshClause, Refused, is_usable};
+ghost use Rattle.ring_port.specs.Port.{AreHints, IsClause, IsFreshClause, Refused, is_usable};
 ghost use Rattle.ring_port.specs.Log.{KeepsLog};
 ghost use Rattle.ring_port.specs.Deleting.{TidiedUpTo, TidiedSome};
 ghost use Rattle.ring_trail.specs.TrailData.{TrailData, IsTrail};
@@ -176,12 +176,14 @@ pub(crate) fn tidy_up<P: Port>(port: &mut P) -> Result<(), PortStop>
     port.tidy()
 }
 
-/// Learns a lemma with the ticket in hand, counts it, notes its glue for the restarts, and offers it to the other rings.
+/// Learns a lemma with the ticket in hand and its hints, counts it, notes its glue for the restarts, and offers it to the other
+/// rings.
 fn share_lemma<P: Port>(
     port: &mut P,
     ring: &mut Ring,
     lits: &[Lit],
     glue: u32,
+    hints: &[u64],
 ) -> Result<Option<Cref>, PortStop>
     requires ticket { (P.state port.old).ticket ≡ true }
     requires usable { is_usable (P.state port.old).refused ≡ true }
@@ -189,6 +191,7 @@ fn share_lemma<P: Port>(
     requires clause { IsClause (P.state port.old).vars lits.now }
     requires rup { rup (known (P.state port.old)) lits.now ≡ true }
     requires fresh { IsFreshClause (P.state port.old) lits.now }
+    requires hints { AreHints (P.state port.old) lits.now hints.now }
     requires below { ring.old.learned < 2 ^ 64 - 1 }
     requires noted { ring.old.restarts.count ≡ ring.old.learned }
     requires few { ring.old.exported ≤ ring.old.learned }
@@ -197,7 +200,7 @@ fn share_lemma<P: Port>(
     ensures log { KeepsLog (P.state port.old) (P.state port.new) }
     ensures port { IsPort (P.state port.new) }
 {
-    let address = port.learn(lits, glue)?;
+    let address = port.learn(lits, glue, hints)?;
     ring.learned += 1;
     ring.restarts.note(glue);
     offer_lemma(port, ring, address);
@@ -234,13 +237,21 @@ fn finish_conflict<P: Port>(
 
 /// Draws a ticket, learns a lemma with it, and goes back to where it forces its first literal, or to level 0. Nothing waits for its
 /// deletion then. If all tickets have been drawn nothing is learned, and that is the end.
-fn learn_lemma<P: Port>(port: &mut P, ring: &mut Ring, lits: &[Lit], back: u32, glue: u32) -> Next
+fn learn_lemma<P: Port>(
+    port: &mut P,
+    ring: &mut Ring,
+    lits: &[Lit],
+    back: u32,
+    glue: u32,
+    hints: &[u64],
+) -> Next
     requires search { InSearch (P.state port.old) ring.old }
     requires draws { CanDraw (P.state port.old) ring.old.learned }
     requires decides { Decides (P.state port.old) ring.old.decider }
     requires paced { IsPaced ring.old.restarts ring.old.learned }
     requires offering { IsOffering (P.state port.old) ring.old }
     requires lemma { IsAsserting (P.state port.old) ring.old.trail lits.now back }
+    requires hints { AreHints (P.state port.old) lits.now hints.now }
     ensures comes { CameOfDraw (P.state port.old) (P.state port.new) ring.old ring.new lits.now back glue result }
     ensures port { IsPort (P.state port.new) }
 {
@@ -248,7 +259,7 @@ fn learn_lemma<P: Port>(port: &mut P, ring: &mut Ring, lits: &[Lit], back: u32, 
         Drawn::Ticket => {}
         Drawn::Gone => return Next::Finish(End::Spent),
     }
-    let address = match share_lemma(port, ring, lits, glue) {
+    let address = match share_lemma(port, ring, lits, glue, hints) {
         Ok(address) => address,
         Err(stop) => return Next::Finish(end_refused(stop)),
     };
@@ -290,13 +301,13 @@ pub(crate) fn learn_from<P: Port>(
     ensures port { IsPort (P.state port.new) }
 {
     match analysis.analyze(port, &ring.trail, conflict) {
-        Conclusion::Empty => Next::Finish(refute(port)),
+        Conclusion::Empty => Next::Finish(refute(port, analysis.hints())),
         Conclusion::Lemma { back, glue } => {
             let analyzed = analysis.analyzed();
             if bump_analyzed(&mut ring.decider, analyzed, &mut ring.bumps).is_err() {
                 return Next::Finish(End::Memory);
             }
-            learn_lemma(port, ring, analysis.lits(), back, glue)
+            learn_lemma(port, ring, analysis.lits(), back, glue, analysis.hints())
         }
     }
 }

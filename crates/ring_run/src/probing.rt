@@ -12,6 +12,7 @@ use crate::course::end_refused;
 use crate::decision::write_pending;
 use crate::job::End;
 use crate::ring::Ring;
+use analyze::Analysis;
 use ring_port::Port;
 use ring_probe::{Probed, probe};
 use sat_words::Lit;
@@ -24,11 +25,17 @@ pub const PROBES: u32 = 1_000;
 pub(crate) const LEAST_CODE: u32 = 2;
 
 /// Probes a literal. If it fails its negation is true then, and what became true gets its lines.
-fn probe_literal<P: Port>(port: &mut P, ring: &mut Ring, lit: Lit) -> Result<(), End>
+fn probe_literal<P: Port>(
+    port: &mut P,
+    ring: &mut Ring,
+    analysis: &mut Analysis,
+    lit: Lit,
+) -> Result<(), End>
     requires resting { IsResting (P.state port.old) ring.old }
     requires listed { HasLemmas (P.state port.old) ring.old }
     requires on { IsOn ring.old.trail.vars lit }
     requires free { HasNoPlace ring.old.trail.steps lit.var }
+    requires analysis { analysis.old.vars ≡ ring.old.trail.vars }
     ensures over { IfErr result (HaltsAt (P.state port.old) (P.state port.new)) }
     ensures halts { IfErr result (HaltsAtProbe (point (P.state port.old) ring.old) (P.state port.new) lit) }
     ensures keeps { OnOk result (KeepsOn (P.state port.old) (P.state port.new)) }
@@ -40,11 +47,12 @@ fn probe_literal<P: Port>(port: &mut P, ring: &mut Ring, lit: Lit) -> Result<(),
     ensures same { ring.new ≡ record ring.old { trail = ring.new.trail; watches = ring.new.watches; written = ring.new.written } }
     ensures looks { (P.state port.new).looks ≡ (P.state port.old).looks }
     ensures nothing { OffersNothing (P.state port.old) (P.state port.new) }
+    ensures analysis { analysis.new.vars ≡ analysis.old.vars }
     ensures port { IsPort (P.state port.new) }
 {
-    match probe(port, &mut ring.watches, &mut ring.trail, lit) {
+    match probe(port, &mut ring.watches, &mut ring.trail, analysis, lit) {
         Ok(Probed::Holds) => Ok(()),
-        Ok(Probed::Unit(_)) => match write_pending(port, ring) {
+        Ok(Probed::Unit(_)) => match write_pending(port, ring, analysis) {
             Ok(()) => Ok(()),
             Err(stop) => Err(end_refused(stop)),
         },
@@ -82,11 +90,17 @@ fn take_literal(ring: &mut Ring) -> Lit
 }
 
 /// Gives the next literal its turn: it is probed if it has no value. Answers how many may be probed after it.
-fn probe_next<P: Port>(port: &mut P, ring: &mut Ring, left: u32) -> Result<u32, End>
+fn probe_next<P: Port>(
+    port: &mut P,
+    ring: &mut Ring,
+    analysis: &mut Analysis,
+    left: u32,
+) -> Result<u32, End>
     requires resting { IsResting (P.state port.old) ring.old }
     requires listed { HasLemmas (P.state port.old) ring.old }
     requires some { 1 ≤ ring.old.trail.vars }
     requires left { 1 ≤ left }
+    requires analysis { analysis.old.vars ≡ ring.old.trail.vars }
     ensures over { IfErr result (HaltsAt (P.state port.old) (P.state port.new)) }
     ensures halts { IfErr result (HaltsAtCode (point (P.state port.old) ring.old) (P.state port.new) (code_on ring.old.trail.vars ring.old.next_probe)) }
     ensures keeps { OnOk result (KeepsOn (P.state port.old) (P.state port.new)) }
@@ -99,22 +113,28 @@ fn probe_next<P: Port>(port: &mut P, ring: &mut Ring, left: u32) -> Result<u32, 
     ensures same { ring.new ≡ record ring.old { trail = ring.new.trail; watches = ring.new.watches; written = ring.new.written; next_probe = ring.new.next_probe } }
     ensures looks { (P.state port.new).looks ≡ (P.state port.old).looks }
     ensures nothing { OffersNothing (P.state port.old) (P.state port.new) }
+    ensures analysis { analysis.new.vars ≡ analysis.old.vars }
     ensures port { IsPort (P.state port.new) }
 {
     let lit = take_literal(ring);
     if ring.trail.truth(lit).is_some() {
         return Ok(left);
     }
-    match probe_literal(port, ring, lit) {
+    match probe_literal(port, ring, analysis, lit) {
         Ok(()) => Ok(left - 1),
         Err(end) => Err(end),
     }
 }
 
 /// Probes literals without a value, by code: from where the last probing stopped, and then from the least code, at most once round.
-pub(crate) fn probe_literals<P: Port>(port: &mut P, ring: &mut Ring) -> Result<(), End>
+pub(crate) fn probe_literals<P: Port>(
+    port: &mut P,
+    ring: &mut Ring,
+    analysis: &mut Analysis,
+) -> Result<(), End>
     requires resting { IsResting (P.state port.old) ring.old }
     requires listed { HasLemmas (P.state port.old) ring.old }
+    requires analysis { analysis.old.vars ≡ ring.old.trail.vars }
     ensures over { IfErr result (HaltsAt (P.state port.old) (P.state port.new)) }
     ensures halts { IfErr result (HaltsInRound (point (P.state port.old) ring.old) (P.state port.new) ring.old.next_probe) }
     ensures keeps { OnOk result (KeepsOn (P.state port.old) (P.state port.new)) }
@@ -125,6 +145,8 @@ pub(crate) fn probe_literals<P: Port>(port: &mut P, ring: &mut Ring) -> Result<(
     ensures same { ring.new ≡ record ring.old { trail = ring.new.trail; watches = ring.new.watches; written = ring.new.written; next_probe = ring.new.next_probe } }
     ensures looks { (P.state port.new).looks ≡ (P.state port.old).looks }
     ensures nothing { OffersNothing (P.state port.old) (P.state port.new) }
+    ensures vars { OnOk result (ring.new.trail.vars ≡ ring.old.trail.vars) }
+    ensures analysis { analysis.new.vars ≡ analysis.old.vars }
     ensures port { IsPort (P.state port.new) }
 {
     let _vars = port.vars();
@@ -133,7 +155,7 @@ pub(crate) fn probe_literals<P: Port>(port: &mut P, ring: &mut Ring) -> Result<(
         if left == 0 {
             return Ok(());
         }
-        match probe_next(port, ring, left) {
+        match probe_next(port, ring, analysis, left) {
             Ok(rest) => left = rest,
             Err(end) => return Err(end),
         }

@@ -18,6 +18,7 @@ use crate::lemma::tidy_up;
 use crate::probing::probe_literals;
 use crate::ring::Ring;
 use crate::vivification::vivify_lemmas;
+use analyze::Analysis;
 use reduce_db::{due, reduce, tell_apart};
 use ring_port::{Port, PortStop};
 use std::alloc::Global;
@@ -135,13 +136,19 @@ fn reduce_both<P: Port>(alloc: Global, port: &mut P, ring: &mut Ring) -> Result<
 }
 
 /// Reduces lemmas and imports, gives the lemmas that are left their turns to be vivified, probes literals, and writes the deletion lines.
-fn shrink_lemmas<P: Port>(alloc: Global, port: &mut P, ring: &mut Ring) -> Result<(), End>
+fn shrink_lemmas<P: Port>(
+    alloc: Global,
+    port: &mut P,
+    ring: &mut Ring,
+    analysis: &mut Analysis,
+) -> Result<(), End>
     requires import { MayImport (P.state port.old) ring.old.trail ring.old.watches ring.old.written }
     requires quiet { IsQuiet ring.old.watches (lits_at (P.state port.old)) ring.old.trail }
     requires opening { OpeningSeen (P.state port.old) }
     requires listed { HasLemmas (P.state port.old) ring.old }
     requires few { ring.old.reductions < 2 ^ 64 - 1 }
     requires due { IsDue ring.old }
+    requires analysis { analysis.old.vars ≡ ring.old.trail.vars }
     ensures shrunk { OnOk result (HasShrunk (P.state port.old) (P.state port.new) ring.old ring.new) }
     ensures halts { IfErr result (HaltsShrinking (P.state port.old) (P.state port.new) ring.old) }
     ensures over { IfErr result (HaltsAt (P.state port.old) (P.state port.new)) }
@@ -154,17 +161,19 @@ fn shrink_lemmas<P: Port>(alloc: Global, port: &mut P, ring: &mut Ring) -> Resul
     ensures same { ring.new ≡ record ring.old { trail = ring.new.trail; watches = ring.new.watches; written = ring.new.written; lemmas = ring.new.lemmas; imports = ring.new.imports; reductions = ring.new.reductions; reduced_at = ring.new.reduced_at; next_probe = ring.new.next_probe } }
     ensures looks { (P.state port.new).looks ≡ (P.state port.old).looks }
     ensures nothing { OffersNothing (P.state port.old) (P.state port.new) }
+    ensures vars { OnOk result (ring.new.trail.vars ≡ ring.old.trail.vars) }
+    ensures analysis { analysis.new.vars ≡ analysis.old.vars }
     ensures port { IsPort (P.state port.new) }
 {
     match reduce_both(alloc, port, ring) {
         Ok(()) => {}
         Err(stop) => return Err(end_refused(stop)),
     }
-    match vivify_lemmas(alloc, port, ring) {
+    match vivify_lemmas(alloc, port, ring, analysis) {
         Ok(()) => {}
         Err(end) => return Err(end),
     }
-    match probe_literals(port, ring) {
+    match probe_literals(port, ring, analysis) {
         Ok(()) => {}
         Err(end) => return Err(end),
     }
@@ -176,12 +185,18 @@ fn shrink_lemmas<P: Port>(alloc: Global, port: &mut P, ring: &mut Ring) -> Resul
 
 /// Reduces and vivifies the lemmas and probes literals if that is due. At level 0, if each literal has its line and nothing is left to
 /// propagate.
-fn shrink_due<P: Port>(alloc: Global, port: &mut P, ring: &mut Ring) -> Result<(), End>
+fn shrink_due<P: Port>(
+    alloc: Global,
+    port: &mut P,
+    ring: &mut Ring,
+    analysis: &mut Analysis,
+) -> Result<(), End>
     requires import { MayImport (P.state port.old) ring.old.trail ring.old.watches ring.old.written }
     requires quiet { IsQuiet ring.old.watches (lits_at (P.state port.old)) ring.old.trail }
     requires opening { OpeningSeen (P.state port.old) }
     requires listed { HasLemmas (P.state port.old) ring.old }
     requires few { ring.old.reductions < 2 ^ 64 - 1 }
+    requires analysis { analysis.old.vars ≡ ring.old.trail.vars }
     ensures due { IsDue ring.old → OnOk result (HasShrunk (P.state port.old) (P.state port.new) ring.old ring.new) }
     ensures halts { IfErr result (λ end. IsDue ring.old × HaltsShrinking (P.state port.old) (P.state port.new) ring.old end) }
     ensures early { ring.old.learned - ring.old.reduced_at < lemmas_before (ring.old.reductions + 1) → IsIdle (P.state port.old) (P.state port.new) ring.old ring.new }
@@ -195,17 +210,24 @@ fn shrink_due<P: Port>(alloc: Global, port: &mut P, ring: &mut Ring) -> Result<(
     ensures same { ring.new ≡ record ring.old { trail = ring.new.trail; watches = ring.new.watches; written = ring.new.written; lemmas = ring.new.lemmas; imports = ring.new.imports; reductions = ring.new.reductions; reduced_at = ring.new.reduced_at; next_probe = ring.new.next_probe } }
     ensures looks { (P.state port.new).looks ≡ (P.state port.old).looks }
     ensures nothing { OffersNothing (P.state port.old) (P.state port.new) }
+    ensures vars { OnOk result (ring.new.trail.vars ≡ ring.old.trail.vars) }
+    ensures analysis { analysis.new.vars ≡ analysis.old.vars }
     ensures port { IsPort (P.state port.new) }
 {
     let _vars = port.vars();
     if !due(ring.learned - ring.reduced_at, ring.reductions + 1) {
         return Ok(());
     }
-    shrink_lemmas(alloc, port, ring)
+    shrink_lemmas(alloc, port, ring, analysis)
 }
 
 /// Reduces and vivifies the lemmas and probes literals if that is due, and imports. No import is yet to be then.
-pub(crate) fn reduce_vivify_import<P: Port>(alloc: Global, port: &mut P, ring: &mut Ring) -> Next
+pub(crate) fn reduce_vivify_import<P: Port>(
+    alloc: Global,
+    port: &mut P,
+    ring: &mut Ring,
+    analysis: &mut Analysis,
+) -> Next
     requires import { MayImport (P.state port.old) ring.old.trail ring.old.watches ring.old.written }
     requires quiet { IsQuiet ring.old.watches (lits_at (P.state port.old)) ring.old.trail }
     requires opening { OpeningSeen (P.state port.old) }
@@ -213,6 +235,7 @@ pub(crate) fn reduce_vivify_import<P: Port>(alloc: Global, port: &mut P, ring: &
     requires listed { HasLemmas (P.state port.old) ring.old }
     requires few { ring.old.reductions < 2 ^ 64 - 1 }
     requires import_due { ring.old.import_due ≡ true }
+    requires analysis { analysis.old.vars ≡ ring.old.trail.vars }
     ensures leads { Leads (P.state port.old) ring.old (P.state port.new) ring.new result }
     ensures refused { IsOnOrRefused result }
     ensures halts { HaltsBy (HaltsRenewing (P.state port.old) (P.state port.new) ring.old) result }
@@ -232,11 +255,12 @@ pub(crate) fn reduce_vivify_import<P: Port>(alloc: Global, port: &mut P, ring: &
     ensures learned { ring.new.learned ≡ ring.old.learned }
     ensures restarts { ring.new.restarts ≡ ring.old.restarts }
     ensures decider { ring.new.decider ≡ ring.old.decider }
+    ensures analysis { analysis.new.vars ≡ analysis.old.vars }
     ensures port { IsPort (P.state port.new) }
 {
-    match shrink_due(alloc, port, ring) {
+    match shrink_due(alloc, port, ring, analysis) {
         Ok(()) => {}
         Err(end) => return Next::Finish(end),
     }
-    import(port, ring)
+    import(port, ring, analysis)
 }

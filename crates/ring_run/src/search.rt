@@ -63,7 +63,7 @@ fn search_step<P: Port>(
     let _lawful = ring.trail.decision_level();
     match propagated {
         Propagated::Conflict(conflict) => learn_from(port, ring, analysis, conflict),
-        Propagated::Quiet => decide_next(alloc, port, ring, model),
+        Propagated::Quiet => decide_next(alloc, port, ring, analysis, model),
     }
 }
 
@@ -99,7 +99,7 @@ pub(crate) fn search<P: Port>(
     ensures odd { ring.new.restarts.odd ≡ ring.old.restarts.odd }
     ensures port { IsPort (P.state port.new) }
 {
-    if let Next::Finish(end) = import(port, ring) {
+    if let Next::Finish(end) = import(port, ring, analysis) {
         return end;
     }
     let Ok(model) = walk_first(alloc, port, &ring.trail, &mut ring.decider, job) else {

@@ -9,14 +9,16 @@ ghost use Rattle.watch_prop.specs.Propagation.{HasReasons};
 ghost use Rattle.ring_run.specs.Searching.{AddedSeen, OffersNothing, OnlySaw, Stands, AreTaken, AreTold, UnitsSeen, OnlyWrote, ToldUnits, KeepsOn};
 ghost use Rattle.ring_run.specs.Ending.{EndsAt, HaltsTelling, end_refused};
 
+use analyze::Analysis;
 use ring_port::{Port, PortStop};
 use ring_trail::Trail;
+use sat_words::Lit;
 
 /// Whether the units that came can all be true.
 #[derive(Clone, Copy)]
 pub(crate) enum Units {
-    /// One of them is false at level 0.
-    Opposed,
+    /// This one is false at level 0.
+    Opposed(Lit),
     /// Each is true.
     True,
 }
@@ -42,7 +44,7 @@ pub(crate) fn take_units<P: Port>(port: &mut P, trail: &mut Trail) -> Units
     while let Some(lit) = port.next_unit() {
         match trail.truth(lit) {
             Some(true) => {}
-            Some(false) => return Units::Opposed,
+            Some(false) => return Units::Opposed(lit),
             None => trail.assign(lit, None),
         }
     }
@@ -50,8 +52,13 @@ pub(crate) fn take_units<P: Port>(port: &mut P, trail: &mut Trail) -> Units
 }
 
 /// Writes a unit's line for the literal at this place, if it has a reason: one without is a unit that was given or learned,
-/// which is seen already and gets no line.
-fn write_unit<P: Port>(port: &mut P, trail: &Trail, place: u32) -> Result<(), PortStop>
+/// which is seen already and gets no line. Its hints are found anew for the line.
+fn write_unit<P: Port>(
+    port: &mut P,
+    trail: &Trail,
+    analysis: &mut Analysis,
+    place: u32,
+) -> Result<(), PortStop>
     requires level { trail.now.level ≡ 0 }
     requires trail { IsTrail trail.now }
     requires place { place < length trail.now.steps }
@@ -60,6 +67,7 @@ fn write_unit<P: Port>(port: &mut P, trail: &Trail, place: u32) -> Result<(), Po
     requires units { UnitsSeen (P.state port.old) }
     requires port { IsPort (P.state port.old) }
     requires refused { (P.state port.old).refused ≡ None }
+    requires analysis { analysis.old.vars ≡ trail.now.vars }
     ensures ok { OnOk result (KeepsOn (P.state port.old) (P.state port.new)) }
     ensures over { IfErr result (λ stop. EndsAt (P.state port.old) (P.state port.new) (end_refused stop)) }
     ensures halts { IfErr result (λ stop. HaltsTelling (P.state port.old) (P.state port.new) trail.now.steps (end_refused stop)) }
@@ -72,18 +80,22 @@ fn write_unit<P: Port>(port: &mut P, trail: &Trail, place: u32) -> Result<(), Po
     ensures looks { (P.state port.new).looks ≡ (P.state port.old).looks }
     ensures waiting { (P.state port.new).waiting ≡ (P.state port.old).waiting }
     ensures nothing { OffersNothing (P.state port.old) (P.state port.new) }
+    ensures analysis { analysis.new.vars ≡ analysis.old.vars }
     ensures port { IsPort (P.state port.new) }
 {
     if trail.reason_at(place).is_none() {
         return Ok(());
     }
-    port.unit(trail.lit_at(place))
+    let lit = trail.lit_at(place);
+    analysis.trace_literal(port, trail, &[lit], place);
+    port.unit(lit, analysis.hints())
 }
 
 /// Writes a unit's line for each literal from the place `written` on that has a reason. The trail is at level 0.
 pub(crate) fn write_units<P: Port>(
     port: &mut P,
     trail: &Trail,
+    analysis: &mut Analysis,
     written: u32,
 ) -> Result<(), PortStop>
     requires level { trail.now.level ≡ 0 }
@@ -93,6 +105,7 @@ pub(crate) fn write_units<P: Port>(
     requires units { UnitsSeen (P.state port.old) }
     requires port { IsPort (P.state port.old) }
     requires refused { (P.state port.old).refused ≡ None }
+    requires analysis { analysis.old.vars ≡ trail.now.vars }
     ensures ok { OnOk result (KeepsOn (P.state port.old) (P.state port.new)) }
     ensures over { IfErr result (λ stop. EndsAt (P.state port.old) (P.state port.new) (end_refused stop)) }
     ensures halts { IfErr result (λ stop. HaltsTelling (P.state port.old) (P.state port.new) trail.now.steps (end_refused stop)) }
@@ -105,10 +118,11 @@ pub(crate) fn write_units<P: Port>(
     ensures looks { (P.state port.new).looks ≡ (P.state port.old).looks }
     ensures waiting { (P.state port.new).waiting ≡ (P.state port.old).waiting }
     ensures nothing { OffersNothing (P.state port.old) (P.state port.new) }
+    ensures analysis { analysis.new.vars ≡ analysis.old.vars }
     ensures port { IsPort (P.state port.new) }
 {
     for place in written..trail.len() {
-        match write_unit(port, trail, place) {
+        match write_unit(port, trail, analysis, place) {
             Ok(()) => {}
             Err(stop) => return Err(stop),
         }

@@ -13,6 +13,7 @@ use crate::course::{end_refused, refute};
 use crate::decision::write_pending;
 use crate::job::End;
 use crate::ring::Ring;
+use analyze::Analysis;
 use ring_port::Port;
 use ring_trail::Trail;
 use sat_words::{Cref, Lit};
@@ -70,8 +71,14 @@ fn is_named<P: Port>(port: &mut P, ring: &Ring, c: Cref) -> bool
 }
 
 /// Makes a unit true that is seen, and what follows from it, and writes their lines.
-fn follow_unit<P: Port>(port: &mut P, ring: &mut Ring, lit: Lit) -> Result<(), End>
+fn follow_unit<P: Port>(
+    port: &mut P,
+    ring: &mut Ring,
+    analysis: &mut Analysis,
+    lit: Lit,
+) -> Result<(), End>
     requires awaits { AwaitsUnit (P.state port.old) ring.old lit }
+    requires analysis { analysis.old.vars ≡ ring.old.trail.vars }
     ensures over { IfErr result (HaltsAt (P.state port.old) (P.state port.new)) }
     ensures halts { IfErr result (HaltsFollowing (P.state port.old) (P.state port.new) (assigned ring.old.trail lit None)) }
     ensures keeps { OnOk result (KeepsOn (P.state port.old) (P.state port.new)) }
@@ -80,6 +87,8 @@ fn follow_unit<P: Port>(port: &mut P, ring: &mut Ring, lit: Lit) -> Result<(), E
     ensures same { ring.new ≡ record ring.old { trail = ring.new.trail; watches = ring.new.watches; written = ring.new.written } }
     ensures looks { (P.state port.new).looks ≡ (P.state port.old).looks }
     ensures nothing { OffersNothing (P.state port.old) (P.state port.new) }
+    ensures vars { OnOk result (ring.new.trail.vars ≡ ring.old.trail.vars) }
+    ensures analysis { analysis.new.vars ≡ analysis.old.vars }
     ensures port { IsPort (P.state port.new) }
 {
     ring.trail.assign(lit, None);
@@ -88,18 +97,27 @@ fn follow_unit<P: Port>(port: &mut P, ring: &mut Ring, lit: Lit) -> Result<(), E
     };
     let _lawful = ring.trail.decision_level();
     match propagated {
-        Propagated::Conflict(_) => return Err(refute(port)),
+        Propagated::Conflict(conflict) => {
+            analysis.trace_clause(port, &ring.trail, &[], conflict);
+            return Err(refute(port, analysis.hints()));
+        }
         Propagated::Quiet => {}
     }
-    match write_pending(port, ring) {
+    match write_pending(port, ring, analysis) {
         Ok(()) => Ok(()),
         Err(stop) => Err(end_refused(stop)),
     }
 }
 
 /// What is left of a lemma that was vivified. A unit is made true, with what follows from it.
-fn settle_left<P: Port>(port: &mut P, ring: &mut Ring, left: Vivified) -> Result<AfterVivify, End>
+fn settle_left<P: Port>(
+    port: &mut P,
+    ring: &mut Ring,
+    analysis: &mut Analysis,
+    left: Vivified,
+) -> Result<AfterVivify, End>
     requires left { LeftBehind (P.state port.old) ring.old left }
+    requires analysis { analysis.old.vars ≡ ring.old.trail.vars }
     ensures over { IfErr result (HaltsAt (P.state port.old) (P.state port.new)) }
     ensures halts { IfErr result (λ end. (l : Literal) × (left ≡ Vivified.Unit l) × HaltsFollowing (P.state port.old) (P.state port.new) (assigned ring.old.trail l None) end) }
     ensures keeps { OnOk result (KeepsOn (P.state port.old) (P.state port.new)) }
@@ -108,13 +126,15 @@ fn settle_left<P: Port>(port: &mut P, ring: &mut Ring, left: Vivified) -> Result
     ensures same { ring.new ≡ record ring.old { trail = ring.new.trail; watches = ring.new.watches; written = ring.new.written } }
     ensures looks { (P.state port.new).looks ≡ (P.state port.old).looks }
     ensures nothing { OffersNothing (P.state port.old) (P.state port.new) }
+    ensures vars { OnOk result (ring.new.trail.vars ≡ ring.old.trail.vars) }
+    ensures analysis { analysis.new.vars ≡ analysis.old.vars }
     ensures port { IsPort (P.state port.new) }
 {
     let _vars = port.vars();
     match left {
         Vivified::Kept | Vivified::Empty => Ok(AfterVivify::Unchanged),
         Vivified::Shorter(shorter) => Ok(AfterVivify::Replaced(shorter)),
-        Vivified::Unit(lit) => match follow_unit(port, ring, lit) {
+        Vivified::Unit(lit) => match follow_unit(port, ring, analysis, lit) {
             Ok(()) => Ok(AfterVivify::Gone),
             Err(end) => Err(end),
         },
@@ -126,10 +146,12 @@ fn vivify_lemma<P: Port>(
     alloc: Global,
     port: &mut P,
     ring: &mut Ring,
+    analysis: &mut Analysis,
     c: Cref,
 ) -> Result<AfterVivify, End>
     requires resting { IsResting (P.state port.old) ring.old }
     requires lemma { MayVivify (P.state port.old) ring.old.watches c }
+    requires analysis { analysis.old.vars ≡ ring.old.trail.vars }
     ensures over { IfErr result (HaltsAt (P.state port.old) (P.state port.new)) }
     ensures halts { IfErr result (HaltsAtLemma (point (P.state port.old) ring.old) (P.state port.new) c) }
     ensures keeps { OnOk result (KeepsOn (P.state port.old) (P.state port.new)) }
@@ -142,14 +164,16 @@ fn vivify_lemma<P: Port>(
     ensures same { ring.new ≡ record ring.old { trail = ring.new.trail; watches = ring.new.watches; written = ring.new.written } }
     ensures looks { (P.state port.new).looks ≡ (P.state port.old).looks }
     ensures nothing { OffersNothing (P.state port.old) (P.state port.new) }
+    ensures vars { OnOk result (ring.new.trail.vars ≡ ring.old.trail.vars) }
+    ensures analysis { analysis.new.vars ≡ analysis.old.vars }
     ensures port { IsPort (P.state port.new) }
 {
     let _vars = port.vars();
     if !is_named(port, ring, c) {
         return Ok(AfterVivify::Unchanged);
     }
-    match vivify(alloc, port, &mut ring.watches, &mut ring.trail, c) {
-        Ok(left) => settle_left(port, ring, left),
+    match vivify(alloc, port, &mut ring.watches, &mut ring.trail, analysis, c) {
+        Ok(left) => settle_left(port, ring, analysis, left),
         Err(stop) => Err(end_refused(stop)),
     }
 }
@@ -160,12 +184,14 @@ fn vivify_at<P: Port>(
     alloc: Global,
     port: &mut P,
     ring: &mut Ring,
+    analysis: &mut Analysis,
     place: usize,
 ) -> Result<usize, End>
     requires resting { IsResting (P.state port.old) ring.old }
     requires listed { HasLemmas (P.state port.old) ring.old }
     requires unmixed { AreUnmixed ring.old }
     requires inside { place < length ring.old.lemmas.items }
+    requires analysis { analysis.old.vars ≡ ring.old.trail.vars }
     ensures over { IfErr result (HaltsAt (P.state port.old) (P.state port.new)) }
     ensures halts { IfErr result (HaltsAtPlace (point (P.state port.old) ring.old) (P.state port.new) ring.old.lemmas.items place) }
     ensures keeps { OnOk result (KeepsOn (P.state port.old) (P.state port.new)) }
@@ -177,10 +203,12 @@ fn vivify_at<P: Port>(
     ensures same { ring.new ≡ record ring.old { trail = ring.new.trail; watches = ring.new.watches; written = ring.new.written; lemmas = ring.new.lemmas } }
     ensures looks { (P.state port.new).looks ≡ (P.state port.old).looks }
     ensures nothing { OffersNothing (P.state port.old) (P.state port.new) }
+    ensures vars { OnOk result (ring.new.trail.vars ≡ ring.old.trail.vars) }
+    ensures analysis { analysis.new.vars ≡ analysis.old.vars }
     ensures port { IsPort (P.state port.new) }
 {
     let lemma = ring.lemmas[place];
-    match vivify_lemma(alloc, port, ring, lemma) {
+    match vivify_lemma(alloc, port, ring, analysis, lemma) {
         Ok(AfterVivify::Unchanged) => Ok(place + 1),
         Ok(AfterVivify::Replaced(shorter)) => {
             ring.lemmas.remove(place);
@@ -200,10 +228,12 @@ pub(crate) fn vivify_lemmas<P: Port>(
     alloc: Global,
     port: &mut P,
     ring: &mut Ring,
+    analysis: &mut Analysis,
 ) -> Result<(), End>
     requires resting { IsResting (P.state port.old) ring.old }
     requires listed { HasLemmas (P.state port.old) ring.old }
     requires unmixed { AreUnmixed ring.old }
+    requires analysis { analysis.old.vars ≡ ring.old.trail.vars }
     ensures over { IfErr result (HaltsAt (P.state port.old) (P.state port.new)) }
     ensures halts { IfErr result (HaltsVivifying (point (P.state port.old) ring.old) (P.state port.new) ring.old.lemmas.items) }
     ensures keeps { OnOk result (KeepsOn (P.state port.old) (P.state port.new)) }
@@ -215,12 +245,14 @@ pub(crate) fn vivify_lemmas<P: Port>(
     ensures same { ring.new ≡ record ring.old { trail = ring.new.trail; watches = ring.new.watches; written = ring.new.written; lemmas = ring.new.lemmas } }
     ensures looks { (P.state port.new).looks ≡ (P.state port.old).looks }
     ensures nothing { OffersNothing (P.state port.old) (P.state port.new) }
+    ensures vars { OnOk result (ring.new.trail.vars ≡ ring.old.trail.vars) }
+    ensures analysis { analysis.new.vars ≡ analysis.old.vars }
     ensures port { IsPort (P.state port.new) }
 {
     let _vars = port.vars();
     let mut place = 0;
     for _search_step in 0..ring.lemmas.len() {
-        match vivify_at(alloc, port, ring, place) {
+        match vivify_at(alloc, port, ring, analysis, place) {
             Ok(next) => place = next,
             Err(end) => return Err(end),
         }

@@ -2,6 +2,7 @@ mod Going
 mod Running
 mod Turning
 pub mod Units
+pub mod UnitCells
 mod Numbered
 pub mod Leaving
 pub mod Telling

@@ -28,7 +28,7 @@ use Rattle.drat_text.specs.LineState.{LineState}
 use Rattle.drat_text.specs.JournalText.{Origin}
 use Rattle.drat_text.specs.declared.stop.LineStop.{LineStop}
 use Rattle.drat_text.specs.declared.stop.LineStop.TheVariants.{Memory}
-use Rattle.simp_base.specs.WorkState.{WorkState, IsWork, IsFixOn, lists, unit_clauses, known, begun, is_alive_unit}
+use Rattle.simp_base.specs.WorkState.{WorkState, IsWork, IsFixOn, lists, unit_clauses, known, begun, is_alive_unit, unit_lits}
 use Rattle.simp_base.specs.Log.{journal_of, Stands}
 use Rattle.simp_base.specs.Parts.{takes_part}
 use Rattle.simp_base.specs.Causes.{HasOutputCause}
@@ -45,7 +45,7 @@ use Rattle.ruler_simp.specs.declared.ruling.Outcome.TheVariants.{Simplified as L
 use Rattle.ruler_simp.specs.declared.rounds.Schedule.{Schedule}
 use Rattle.ruler_simp.specs.Rounds.{SimplifiedIn, WasSimplified}
 use Rattle.ruler_simp.specs.Left.{start_of, left_clauses, IsLeft, IsTaken}
-use Rattle.ruler_simp.specs.Ruled.{AreOn, IsSimplified, origin_of, Ruled}
+use Rattle.ruler_simp.specs.Ruled.{AreOn, HaveUnitNumbers, IsSimplified, origin_of, Ruled}
 use Rattle.ruler_simp.specs.Again.{ResumesAs, LiftsOn, round_start, before_round, IsSimplifiedAgain, RuledAgain}
 use Rattle.ruler_simp.proofs.Going.{IsReady, GoesOn, IsOver}
 use Rattle.ruler_simp.proofs.Running.{whole_log, whole_vars, whole_comes, whole_first, whole_last}
@@ -95,13 +95,17 @@ module _ (o : Origin) (mine : List Entry) (start w : WorkState) (st : Stands o m
   pub starts : map start_of s.start.items ≡ (program_opening o.formula K).starts
   starts = starts_are (book o.formula K) (length (o.formula ++ added K)) w.clauses s.start.items kept.numbers left.kept left.sorted st.held part_held within
 
-  pub told : All (λ l. is_told o.formula K l ≡ true) s.units.items
+  pub told : All (λ l. is_told o.formula K l ≡ true) (unit_lits s.units.items)
   told = subst (λ (us : List Literal). All (λ l. is_told o.formula K l ≡ true) us) (sym left.units) st.told
 
-  pub distinct : distinct_lits s.units.items ≡ true
+  pub distinct : distinct_lits (unit_lits s.units.items) ≡ true
   distinct = ap distinct_lits left.units ∙ kept.distinct
 
-  pub units : (l : Literal) → has s.units.items l ≡ has (program_opening o.formula K).units l
+  -- the number of each unit is that of its clause
+  pub numbered : HaveUnitNumbers (book o.formula K) s.units.items
+  numbered k d lt = st.alone _ _ (left.held k d lt)
+
+  pub units : (l : Literal) → has (unit_lits s.units.items) l ≡ has (program_opening o.formula K).units l
   units l = ap (λ (us : List Literal). has us l) left.units ∙ units_are o mine w st alone l
 
   -- a model of what is left, mended by what came to the stack, is one of what there was
@@ -157,14 +161,14 @@ module _ (o : Origin) (mine : List Entry) (start w : WorkState) (st : Stands o m
   sound_there : LogSound o.formula R
   sound_there = log_rounds o.formula K st.sound next_start unended
 
-  pub opens_after : OpensAfter o.formula (record { journal = R; starts = map start_of s.start.items; units = s.units.items })
+  pub opens_after : OpensAfter o.formula (record { journal = R; starts = map start_of s.start.items; units = unit_lits s.units.items })
   opens_after = record {
     fits = sound_there.fits;
     accepted = sound_there.accepted;
     going = ap (list_any is_empty) added_same ∙ unended;
     starts = each_start;
     numbers = subst (λ (ss : List Start). IsDistinct nat_eq (map (λ (x : Start). x.number) ss)) (sym starts) (program_numbers o.formula K);
-    told = λ k d lt. told_more o.formula K (Round next_start ∷ []) (get_or s.units.items k d) (told k d lt);
+    told = λ k d lt. told_more o.formula K (Round next_start ∷ []) (get_or (unit_lits s.units.items) k d) (told k d lt);
     distinct = distinct;
   }
 
@@ -173,6 +177,7 @@ module _ (o : Origin) (mine : List Entry) (start w : WorkState) (st : Stands o m
     opens = opens_after;
     starts = starts;
     units = units;
+    numbered = numbered;
     lifts = lifts_on;
     on = on;
   }
@@ -186,7 +191,7 @@ module _ (F : FormulaData) (out : LineState) (J : List Entry) (w : WorkState) (s
   are_starts : map start_of s.start.items ≡ (program_opening F.clauses J).starts
   are_starts = starts (origin_of F out) J (begun F out) w st kept goes none alone s left
 
-  opens : IsOpening F.clauses (record { journal = J; starts = map start_of s.start.items; units = s.units.items })
+  opens : IsOpening F.clauses (record { journal = J; starts = map start_of s.start.items; units = unit_lits s.units.items })
   opens =
       let o = program_opens F.clauses J part in
       record {
@@ -208,6 +213,7 @@ module _ (F : FormulaData) (out : LineState) (J : List Entry) (w : WorkState) (s
     opens = opens;
     starts = are_starts;
     units = units (origin_of F out) J (begun F out) w st kept goes none alone s left;
+    numbered = numbered (origin_of F out) J (begun F out) w st kept goes none alone s left;
     lifts = lifts;
     on = on (origin_of F out) J (begun F out) w st kept goes none alone s left;
   }
@@ -320,7 +326,7 @@ module _ (F : List (List Literal)) (schedule : Schedule) (start : WorkState) (un
   at J = record { formula = F; journal = J; output = start.output }
 
   none_given : (J : List Entry) → ResumesAs F start J → list_any is_empty F ≡ false
-  none_given J r = (or_parts (list_any is_empty F) (list_any is_empty (added J)) (sym (list_any-append is_empty F (added J)) ∙ r.going)).0
+  none_given J r = (or_parts (list_any is_empty F) (list_any is_empty (added J)) (sym (list_any-append is_empty F (added J)) ∙ r.2.going)).0
 
   module _ (w : WorkState) (kept : IsWork w) (new : LineState) (out : new ≡ w.output) where
     pub ruled_again : (answer : Result Run LineStop) → WasSimplified schedule start w answer → (result : Result Outcome LineStop) → IsTaken answer w result → RuledAgain F schedule start new result

@@ -6,13 +6,13 @@ use Rattle.rup_model.specs.declared.journal.Round.{Round as RoundStart}
 use Rattle.rup_model.specs.declared.journal.Entry.{Entry}
 use Rattle.rup_model.specs.declared.journal.Entry.TheVariants.{Round}
 use Rattle.rup_model.specs.Log.{Refutes}
-use Rattle.rup_model.specs.Journal.{lines}
+use Rattle.rup_model.specs.Journal.{book, lines}
 use Rattle.rup_model.specs.Opening.{OpensAfter, program_opening}
 use Rattle.model_stack.specs.declared.stack.Fix.{Fix}
 use Rattle.model_stack.specs.Extend.{Lifts}
 use Rattle.drat_text.specs.LineState.{LineState}
 use Rattle.drat_text.specs.declared.stop.LineStop.{LineStop}
-use Rattle.simp_base.specs.WorkState.{WorkState, known}
+use Rattle.simp_base.specs.WorkState.{WorkState, known, unit_lits}
 use Rattle.simp_base.specs.Log.{Stands}
 use Rattle.simp_base.specs.Resumed.{Resumes}
 use Rattle.simp_base.specs.Causes.{HasOutputCause}
@@ -22,11 +22,11 @@ use Rattle.ruler_simp.specs.declared.ruling.Outcome.TheVariants.{Simplified as L
 use Rattle.ruler_simp.specs.declared.rounds.Schedule.{Schedule}
 use Rattle.ruler_simp.specs.Rounds.{SimplifiedTo}
 use Rattle.ruler_simp.specs.Left.{start_of, left_clauses}
-use Rattle.ruler_simp.specs.Ruled.{AreOn, IsSound, IsUnended, run_of, HasVars, HasStack}
+use Rattle.ruler_simp.specs.Ruled.{AreOn, HaveUnitNumbers, IsSound, IsUnended, run_of, HasVars, HasStack}
 
--- the work goes on from this journal of the formula
+-- the work goes on from this journal of the formula, with some clauses of its units
 abbrev pub ResumesAs : List (List Literal) → WorkState → List Entry → Type 0
-ResumesAs F w journal = Resumes F w.vars w.clauses w.units w.stack w.output journal
+ResumesAs F w journal = (units : List (Literal × ℕ)) × (unit_lits units ≡ w.units) × Resumes F w.vars w.clauses units w.stack w.output journal
 
 -- the stack grew at its end, and each model of what is left, mended by what came, is one of the clauses and units before
 pub record LiftsOn (start : WorkState) (s : Simplified) : Type 0 where
@@ -36,18 +36,20 @@ pub record LiftsOn (start : WorkState) (s : Simplified) : Type 0 where
 
 -- what the next round of the rings begins with
 abbrev pub round_start : Simplified → RoundStart
-round_start s = record { starts = map (λ c. c.0) s.start.items; units = s.units.items }
+round_start s = record { starts = map (λ c. c.0) s.start.items; units = unit_lits s.units.items }
 
 -- the journal after which that round begins
 abbrev pub before_round : List Entry → Simplified → List Entry
 before_round journal s = journal ++ Round (round_start s) ∷ []
 
--- after this journal the start clauses, in their order, and the units are those of the program's opening, and once an entry begins
+-- after this journal the start clauses, in their order, and the units are those of the program's opening, each unit with the number
+-- of its clause, and once an entry begins
 -- the next round the rings can start from them; models lift; all are on the variables that are left
 pub record IsSimplifiedAgain (F : List (List Literal)) (start : WorkState) (journal : List Entry) (s : Simplified) : Type 0 where
-  pub opens : OpensAfter F (record { journal = before_round journal s; starts = map start_of s.start.items; units = s.units.items })
+  pub opens : OpensAfter F (record { journal = before_round journal s; starts = map start_of s.start.items; units = unit_lits s.units.items })
   pub starts : map start_of s.start.items ≡ (program_opening F journal).starts
-  pub units : (l : Literal) → has s.units.items l ≡ has (program_opening F journal).units l
+  pub units : (l : Literal) → has (unit_lits s.units.items) l ≡ has (program_opening F journal).units l
+  pub numbered : HaveUnitNumbers (book F journal) s.units.items
   pub lifts : LiftsOn start s
   pub on : AreOn s.vars s
 

@@ -5,7 +5,7 @@ use Rattle.std.specs.List.Sorted.{IsPermutation, IsNonDecreasingBy}
 use Rattle.sat_words.specs.Literal.{Literal}
 use Rattle.rup_model.specs.Opening.{Start}
 use Rattle.drat_text.specs.declared.stop.LineStop.{LineStop}
-use Rattle.simp_base.specs.WorkState.{WorkState, unit_clauses, lists}
+use Rattle.simp_base.specs.WorkState.{WorkState, AreHeld, unit_clauses, unit_lits, lists}
 use Rattle.simp_base.specs.Parts.{takes_part}
 use Rattle.simp_base.specs.declared.work.Run.{Run}
 use Rattle.simp_base.specs.declared.work.Run.TheVariants.{Done as RunDone, Refuted as RunRefuted}
@@ -19,14 +19,16 @@ start_of c = record { number = c.0; lits = c.1 }
 
 -- the clauses and the units
 abbrev pub left_clauses : Simplified → List (List Literal)
-left_clauses s = lists s.start.items ++ unit_clauses s.units.items
+left_clauses s = lists s.start.items ++ unit_clauses (unit_lits s.units.items)
 
--- the variables of the work, those of its clauses that take part, in order of number, its units and its stack
+-- the variables of the work, those of its clauses that take part, in order of number, its units, each with the number of a clause
+-- of the work, and its stack
 pub record IsLeft (w : WorkState) (s : Simplified) : Type 0 where
   pub vars : s.vars ≡ w.vars
   pub kept : IsPermutation (filter (λ c. takes_part c.1) w.clauses) s.start.items
   pub sorted : IsNonDecreasingBy (λ c. c.0) s.start.items
-  pub units : s.units.items ≡ w.units
+  pub units : unit_lits s.units.items ≡ w.units
+  pub held : AreHeld w.clauses s.units.items
   pub stack : s.stack ≡ w.stack
 
 -- the answer is that of the run, and says what is left if this is done

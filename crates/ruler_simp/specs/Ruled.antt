@@ -1,19 +1,19 @@
 -- What simplifying a formula promises.
-use Rattle.std.specs.Prelude.{◌≡◌, ◌≤◌, ◌^◌, ℕ, false, List, [], map, All, Result, Ok, Err}
+use Rattle.std.specs.Prelude.{◌≡◌, ◌≤◌, ◌^◌, ℕ, false, List, [], ◌∷◌, map, Some, All, Result, Ok, Err}
 use Rattle.std.specs.List.{list_any}
 use Rattle.sat_words.specs.Literal.{Literal, IsOn}
 use Rattle.sat_words.specs.Clause.{has, is_empty}
 use Rattle.sat_words.specs.FormulaData.{FormulaData}
 use Rattle.rup_model.specs.declared.journal.Entry.{Entry}
 use Rattle.rup_model.specs.Log.{Refutes}
-use Rattle.rup_model.specs.Journal.{lines, added}
+use Rattle.rup_model.specs.Journal.{Book, book, lines, added}
 use Rattle.rup_model.specs.Opening.{IsOpening, program_opening}
 use Rattle.model_stack.specs.declared.stack.Fix.{Fix}
 use Rattle.model_stack.specs.Extend.{Lifts}
 use Rattle.drat_text.specs.LineState.{LineState}
 use Rattle.drat_text.specs.JournalText.{Origin}
 use Rattle.drat_text.specs.declared.stop.LineStop.{LineStop}
-use Rattle.simp_base.specs.WorkState.{WorkState, IsFixOn, begun}
+use Rattle.simp_base.specs.WorkState.{WorkState, IsFixOn, begun, unit_lits}
 use Rattle.simp_base.specs.Log.{Stands}
 use Rattle.simp_base.specs.Causes.{HasOutputCause}
 use Rattle.simp_base.specs.declared.work.Run.{Run}
@@ -33,16 +33,22 @@ pub record IsSound (old new : LineState) : Type 0 where
 -- all literals are on these variables
 pub record AreOn (vars : ℕ) (s : Simplified) : Type 0 where
   pub start : All (λ c. All (IsOn vars) c.1) s.start.items
-  pub units : All (IsOn vars) s.units.items
+  pub units : All (IsOn vars) (unit_lits s.units.items)
   pub stack : All (IsFixOn vars) s.stack
 
+-- each of these units has the number of a clause that is this unit
+abbrev pub HaveUnitNumbers : Book → List (Literal × ℕ) → Type 0
+HaveUnitNumbers b us = All (λ u. b.clause u.1 ≡ Some (u.0 ∷ [])) us
+
 -- the formula has no empty clause; after this journal the start clauses, in their order, and the units are those of the
--- program's opening; each model of them, mended by the stack, is one of the formula; all are on the variables that are left
+-- program's opening, each unit with the number of its clause; each model of them, mended by the stack, is one of the formula; all
+-- are on the variables that are left
 pub record IsSimplified (F : FormulaData) (journal : List Entry) (s : Simplified) : Type 0 where
   pub going : list_any is_empty F.clauses ≡ false
-  pub opens : IsOpening F.clauses (record { journal = journal; starts = map start_of s.start.items; units = s.units.items })
+  pub opens : IsOpening F.clauses (record { journal = journal; starts = map start_of s.start.items; units = unit_lits s.units.items })
   pub starts : map start_of s.start.items ≡ (program_opening F.clauses journal).starts
-  pub units : (l : Literal) → has s.units.items l ≡ has (program_opening F.clauses journal).units l
+  pub units : (l : Literal) → has (unit_lits s.units.items) l ≡ has (program_opening F.clauses journal).units l
+  pub numbered : HaveUnitNumbers (book F.clauses journal) s.units.items
   pub lifts : Lifts F.clauses (left_clauses s) s.stack
   pub on : AreOn s.vars s
 

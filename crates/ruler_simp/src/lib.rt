@@ -12,3 +12,4 @@ pub use laws::what_is_left_resumes;
 pub use passes::Simplifier;
 pub use rounds::Schedule;
 pub use ruling::{Outcome, Simplified, again, simplify};
+pub use starts::with_units;

@@ -5,7 +5,7 @@ ghost use Rattle.sat_words.specs.Formats.{has_hints};
 ghost use Rattle.sat_words.specs.Literal.{IsOn};
 ghost use Rattle.simp_base.specs.WorkState.{resumed};
 ghost use Rattle.simp_base.specs.Resumed.{CanResume};
-ghost use Rattle.ruler_simp.specs.Left.{IsTaken};
+ghost use Rattle.ruler_simp.specs.Left.{IsLeft, IsTaken};
 ghost use Rattle.ruler_simp.specs.Ruled.{Ruled};
 ghost use Rattle.ruler_simp.specs.Again.{RuledAgain};
 
@@ -25,8 +25,8 @@ pub struct Simplified {
     /// The clauses of two literals or more that are alive, except for tautologies: each with its number in the log, in order of
     /// number.
     pub start: Vec<(u64, Clause)>,
-    /// The units, each once, in the order in which they came.
-    pub units: Vec<Lit>,
+    /// The units, each once, in the order in which they came, each with the number of its clause.
+    pub units: Vec<(Lit, u64)>,
     /// What a model of these has to be mended for, to be one of the formula.
     pub stack: Stack,
 }
@@ -40,9 +40,9 @@ pub enum Outcome {
     Refuted,
 }
 
-/// Takes a work apart, by how its simplifying ended.
-fn take<L: LineOut>(answer: Result<Run, LineStop>, work: Work<L>) -> (Result<Outcome, LineStop>, L)
-    ensures taken { IsTaken answer work result.0 }
+/// Takes apart a work that was simplified.
+fn leave<L: LineOut>(work: Work<L>) -> (Simplified, L)
+    ensures left { IsLeft work result.0 }
     ensures output { L.told result.1 ≡ work.output }
 {
     let vars = work.vars();
@@ -52,19 +52,28 @@ fn take<L: LineOut>(answer: Result<Run, LineStop>, work: Work<L>) -> (Result<Out
         stack,
         output,
     } = work.into_parts();
+    let start = starts_of(clauses);
+    let simplified = Simplified {
+        vars,
+        start,
+        units,
+        stack,
+    };
+    (simplified, output)
+}
+
+/// Takes a work apart, by how its simplifying ended.
+fn take<L: LineOut>(answer: Result<Run, LineStop>, work: Work<L>) -> (Result<Outcome, LineStop>, L)
+    ensures taken { IsTaken answer work result.0 }
+    ensures output { L.told result.1 ≡ work.output }
+{
     match answer {
         Ok(Run::Done) => {
-            let start = starts_of(clauses);
-            let simplified = Simplified {
-                vars,
-                start,
-                units,
-                stack,
-            };
+            let (simplified, output) = leave(work);
             (Ok(Outcome::Simplified(simplified)), output)
         }
-        Ok(Run::Refuted) => (Ok(Outcome::Refuted), output),
-        Err(stop) => (Err(stop), output),
+        Ok(Run::Refuted) => (Ok(Outcome::Refuted), work.into_parts().output),
+        Err(stop) => (Err(stop), work.into_parts().output),
     }
 }
 
@@ -97,8 +106,9 @@ pub fn simplify<L: LineOut>(
 }
 
 /// Simplifies what is left of a formula once more: `clauses`, under their numbers, are those of two literals or more and without
-/// opposites that are alive after a journal, whoever added them, and `units` all that are in the formula or were added, each
-/// once. The rounds are those of `simplify`.
+/// opposites that are alive after a journal, whoever added them, and with them the clauses of the units; `units` are all that are in
+/// the formula or were added, each once, with the number of its clause. `with_units` puts these clauses together. The rounds are
+/// those of `simplify`.
 ///
 /// The lines go to the output, after those of the journal, and the entries of the stack after those that it has, so that it mends a
 /// model of what is left to one of the formula. The output comes back with each answer. After a fault it takes no more lines; after
@@ -108,7 +118,7 @@ pub fn again<L: LineOut>(
     formula: &Formula,
     vars: u32,
     clauses: Vec<(u64, Clause)>,
-    units: Vec<Lit>,
+    units: Vec<(Lit, u64)>,
     schedule: Schedule,
     stack: Stack,
     end: LogEnd,

@@ -63,14 +63,17 @@ new_data o L = record {
   before = o.journal;
   starts = o.starts;
   first = o.units;
+  first_numbers = o.numbers;
   depth = o.depth;
   limit = o.limit;
+  hinted = o.hinted;
   journal = o.journal;
   lines = L;
   cells = map (start_stored o.rings) o.starts;
   rings = replicate o.rings no_ring;
   slots = replicate (4 * (o.rings * o.rings) * o.depth) 0;
   units = o.units;
+  numbers = o.numbers;
   turn = None;
   stop = None;
   drawn = 0;
@@ -78,12 +81,12 @@ new_data o L = record {
 
 ring_open : (n : ℕ) (J : List Entry) (k r : ℕ) → length J ≤ n → part_of r n J (ring_in (replicate k no_ring) r) ≡ blank r
 ring_open n J k r le = ap (part_of r n J) (same_all k no_ring r)
-    ∙ (let e = drop_all n J le in λ j. record { ring = r; held = []; making = []; waiting = []; seen = []; shared = 0; wrote = placed r n (e j); puts = []; ticket = false; found = 0 })
+    ∙ (let e = drop_all n J le in λ j. record { ring = r; held = []; making = []; waiting = []; seen = []; numbers = []; shared = 0; wrote = placed r n (e j); puts = []; ticket = false; found = 0 })
 
 pub new_shown : (o : CoreOpening) (L : List Line) (d : CoreData) → d ≡ new_data o L → state_of d ≡ opened o
 new_shown o L d is = ap state_of is ∙ states_same (state_of (new_data o L)) (opened o)
-    (let e = count_all o.rings no_ring in λ i. record { formula = o.formula; rings = e i; depth = o.depth; journal = o.journal; starts = o.starts; units = o.units; limit = o.limit })
-    refl (cells_open o.rings o.starts) (λ r. ap (λ (x : RingState). x.granted) (same_all o.rings no_ring r)) (λ r. ring_open (length o.journal) o.journal o.rings r (omega arith)) (λ k. same_all (4 * (o.rings * o.rings) * o.depth) 0 k) refl refl refl refl
+    (let e = count_all o.rings no_ring in λ i. record { formula = o.formula; rings = e i; depth = o.depth; journal = o.journal; starts = o.starts; units = o.units; numbers = o.numbers; limit = o.limit; hinted = o.hinted })
+    refl (cells_open o.rings o.starts) (λ r. ap (λ (x : RingState). x.granted) (same_all o.rings no_ring r)) (λ r. ring_open (length o.journal) o.journal o.rings r (omega arith)) (λ k. same_all (4 * (o.rings * o.rings) * o.depth) 0 k) refl refl refl refl refl
 
 pub new_kept : (o : CoreOpening) (L : List Line) (d : CoreData) → IsCoreOpening o → L ≡ lines o.formula o.journal → d ≡ new_data o L → Kept d
 new_kept o L d op told is = record {

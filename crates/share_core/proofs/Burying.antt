@@ -1,5 +1,6 @@
 -- A deletion keeps the state sound.
-use Rattle.std.proofs.Common.{◌≡◌, ◌≢◌, ◌⊎◌, ℕ, ◌+◌, ◌<◌, ◌≤◌, ◌==◌, length, All, Option, Some, None, refl, sym, ap, ◌∙◌, subst, inl, inr, arith, eq-eqb, ne_eqb}
+use Rattle.std.proofs.Common.{◌≡◌, ◌≢◌, ◌⊎◌, ℕ, ◌+◌, ◌<◌, ◌≤◌, ◌==◌, [], ◌∷◌, length, All, Option, Some, None, refl, sym, ap, ◌∙◌, subst, inl, inr, arith, eq-eqb, ne_eqb}
+use Rattle.sat_words.specs.Literal.{Literal}
 use Rattle.rup_model.specs.declared.journal.Entry.TheVariants.{Del}
 use Rattle.rup_model.specs.Basics.{put, one_if}
 use Rattle.rup_model.specs.Journal.{Book, book_after, book}
@@ -19,7 +20,7 @@ use Rattle.share_core.proofs.Copies.{Keeps, lift_without, below_two}
 use Rattle.share_core.proofs.Slots.{puts_same, slots_kept}
 use Rattle.share_core.proofs.Own.{owned_more}
 use Rattle.share_core.proofs.Whole.{whole_buried}
-use Rattle.share_core.proofs.Frames.{journal_more, fresh_more, stop_more, cells_kept, part_moves, same_here, same_else, units_written}
+use Rattle.share_core.proofs.Frames.{journal_more, fresh_more, stop_more, cells_kept, part_moves, same_here, same_else, has_seen, units_written}
 use Rattle.share_core.proofs.Tickets.{tickets_noted}
 
 pub buries : (c : State) (r a : ℕ) → Sound c → IsEnabled c (Bury r a) → Sound (after c (Bury r a))
@@ -53,6 +54,7 @@ buries c r a s e =
     let no_waiting : (i : ℕ) → i < R → i ≢ r → times_at a (c.part i).waiting ≡ 0 = λ i it ne. let le = below_two R i r (λ k. times_at a (c.part k).waiting) it lt ne in let some = e.2 in omega arith in
     let last : times_at a (without_at a (c.part r).waiting) ≡ 0 = let le = below_at R r (λ k. times_at a (c.part k).waiting) lt in let w0 = at_without a a (c.part r).waiting e.2 in let u : one_if (a == a) ≡ 1 = ap one_if (eq-eqb a a refl) in omega arith in
     let alive_n : b.clause n ≡ Some x.lits = ap b.clause n_is ∙ s.cells.alive a x is in
+    let not_unit : (l : Literal) → (l ∷ []) ≡ x.lits → ⊥ = λ l q. let two = (s.cells.shape a x is).long in let one : 1 ≡ length x.lits = ap length q in omega arith in
     record {
       opens = s.opens;
       counts = part_moves c d r p s lt refl refl refl
@@ -81,10 +83,10 @@ buries c r a s e =
           (λ ne k. (y, k, refl, refl, put_else b.clause n None y.number (λ q. ne (s.cells.own i a y x k is (q ∙ n_is)))))));
       whole = whole_buried c.opening J c.cell r a n x s.whole is n_is;
       slots = slots_kept c.opening c d s.slots refl (puts_same c r p refl);
-      log = journal_more c.opening J (Del r n) s.log (log_dels F J s.log.log r n x.lits alive_n (long_two x.lits (s.cells.shape a x is)) (not_added F J w.going)) w.room lt;
+      log = journal_more c.opening J (Del r n) s.log (log_dels F J s.log.log r n x.lits alive_n (long_two x.lits (s.cells.shape a x is)) (not_added F J w.going)) w.room lt (λ _. tt);
       entries = owned_more c.opening c r (Del r n) p s.entries refl refl;
       freshness = fresh_more c.opening J (Del r n) s.log s.freshness tt tt;
-      units = units_written c r p (Del r n) s (s.units.seen r);
+      units = units_written c r p (Del r n) s (λ m l k. put_else b.clause n None m (λ q. not_unit l (some_same (l ∷ []) x.lits (sym k ∙ ap b.clause q ∙ alive_n))) ∙ k) (has_seen c r s);
       turns = s.turns;
       stops = stop_more F J R c.stop (Del r n) s.stops;
       tickets = tickets_noted c.opening c.drawn c.part r p s.tickets (length J) (Del r n) refl refl refl refl;

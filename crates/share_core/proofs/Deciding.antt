@@ -4,13 +4,14 @@ use Rattle.std.specs.Option.{is_none}
 use Rattle.std.proofs.lemmas.Bool.{and_parts, and_from, or_left, or_right, or_cases}
 use mathlib.Core.Logic.{dite}
 use native.Mathlib.Decide.{ℕ_discrete}
-use Rattle.sat_words.specs.Literal.{Literal}
+use Rattle.sat_words.specs.Literal.{Literal, same}
 use Rattle.sat_words.specs.Clause.{has, distinct_lits, has_opposites}
 use Rattle.rup_model.specs.declared.journal.TheConstants.{LEARNED_PER_REDUCTION}
 use Rattle.rup_model.specs.declared.journal.Kind.{Kind}
 use Rattle.rup_model.specs.declared.journal.Kind.TheVariants.{Ruler, Learn, Derive, UnitLine}
 use Rattle.rup_model.specs.Basics.{one_if}
-use Rattle.rup_model.specs.Journal.{ended, is_ring, recent}
+use Rattle.sat_words.proofs.Members.{same-true, same-refl}
+use Rattle.rup_model.specs.Journal.{book, ended, is_ring, recent}
 use Rattle.rup_model.specs.Opening.{IsLong}
 use Rattle.sat_words.specs.declared.shared.TheConstants.{MAX_ENTRIES}
 use Rattle.share_core.specs.declared.event.TheConstants.{MAX_SHARES}
@@ -21,7 +22,7 @@ use Rattle.share_core.specs.State.{times_at, later, State}
 use Rattle.share_core.specs.Learning.{MayAddClause, MayAddUnit}
 use Rattle.share_core.specs.Enabled.{Writes, IsEnabled}
 use Rattle.share_core.specs.Machine.{has_at}
-use Rattle.share_core.specs.Guards.{is_long, writes, may_add, may_tell, is_enabled}
+use Rattle.share_core.specs.Guards.{is_long, is_unit, writes, may_add, may_tell, is_enabled}
 
 -- a fact and its test
 record Tests (b : Bool) (P : Type 0) : Type 0 where
@@ -105,6 +106,15 @@ telling c r Learn lits = itself _
 telling c r Derive lits = never ⊥ (λ h. h)
 telling c r UnitLine lits = record { yes = λ _. tt; back = λ _. refl }
 
+lone : (l : Literal) (q : Option (List Literal)) → Tests (is_unit l q) (q ≡ Some (l ∷ []))
+lone l None = never (None ≡ Some (l ∷ [])) (λ e. cc)
+lone l (Some []) = never (Some [] ≡ Some (l ∷ [])) (λ e. cc)
+lone l (Some (k ∷ [])) = record {
+  yes = λ h. ap (λ (m : Literal). Some (m ∷ [])) (sym (same-true l k h));
+  back = λ e. let q : k ≡ l = cc in ap (same l) q ∙ same-refl l;
+}
+lone l (Some (k ∷ m ∷ c)) = never (Some (k ∷ m ∷ c) ≡ Some (l ∷ [])) (λ e. cc)
+
 implied : (k : ℕ) (b : Bool) → Tests (not (k == 2) || b) (k ≡ 2 → b ≡ true)
 implied k b = record {
   yes = λ h e. ⊎_elim (λ (n : not (k == 2) ≡ true). absurd (true≢false (sym n ∙ ap not (eq-eqb k 2 e)))) (λ (t : b ≡ true). t) (or_cases (not (k == 2)) b h);
@@ -116,12 +126,12 @@ decides : (c : State) (e : Event) → Tests (is_enabled c e) (IsEnabled c e)
 decides c (Grant r) = both _ _ _ _ (below r c.opening.rings) (negated (c.granted r))
 decides c (TakeTurn r) = both _ _ _ _ (below r c.opening.rings) (empty c.turn)
 decides c (GiveTurn r) = both _ _ _ _ (below r c.opening.rings) (turn_of r c.turn)
-decides c (AddClause r kind lits a) = other _ _ _
+decides c (AddClause r kind lits hints a) = other _ _ _
     (both _ _ _ _ (writing c r) (both _ _ _ _ (adding c r kind lits) (both _ _ _ _ (long lits) (both _ _ _ _ (empty (c.cell a)) (both _ _ _ _ (differ a 0) (itself _))))))
     (λ h. (h.0.0, h.0.1, h.1.0, h.1.1.0, h.1.1.1.0, h.1.1.1.1.0, h.1.1.1.1.1))
     (λ h. ((h.0, h.1), (h.2, (h.3, (h.4, (h.5, h.6))))))
-decides c (AddUnit r kind lit) = other _ _ _ (both _ _ _ _ (writing c r) (both _ _ _ _ (telling c r kind (lit ∷ [])) (itself _))) (λ h. (h.0.0, h.0.1, h.1.0, h.1.1)) (λ h. ((h.0, h.1), (h.2, h.3)))
-decides c (AddEmpty r) = other _ _ _ (both _ _ _ _ (writing c r) (itself _)) (λ h. (h.0.0, h.0.1, h.1)) (λ h. ((h.0, h.1), h.2))
+decides c (AddUnit r kind lit hints) = other _ _ _ (both _ _ _ _ (writing c r) (both _ _ _ _ (telling c r kind (lit ∷ [])) (itself _))) (λ h. (h.0.0, h.0.1, h.1.0, h.1.1)) (λ h. ((h.0, h.1), (h.2, h.3)))
+decides c (AddEmpty r hints) = other _ _ _ (both _ _ _ _ (writing c r) (itself _)) (λ h. (h.0.0, h.0.1, h.1)) (λ h. ((h.0, h.1), h.2))
 decides c (Reduce r) = other _ _ _ (both _ _ _ _ (writing c r) (at_most LEARNED_PER_REDUCTION (length (recent r (later c.opening c.journal))))) (λ h. (h.0.0, h.0.1, h.1)) (λ h. ((h.0, h.1), h.2))
 decides c (OpenCell r a) = both _ _ _ _ (below r c.opening.rings) (stands a (c.part r).making)
 decides c (Read r a) = both _ _ _ _ (below r c.opening.rings) (stands a (c.part r).held)
@@ -134,9 +144,10 @@ decides c (Put r to k l a) = other _ _ _
 decides c (Get r from k l) = other _ _ _
     (both _ _ _ _ (below r c.opening.rings) (both _ _ _ _ (below from c.opening.rings) (both _ _ _ _ (differ from r) (both _ _ _ _ (below k 4) (below l c.opening.depth)))))
     (λ h. (h.0, h.1.0, h.1.1.0, h.1.1.1.0, h.1.1.1.1)) (λ h. (h.0, (h.1, (h.2, (h.3, h.4)))))
-decides c (Publish r lit) = other _ _ _
-    (both _ _ _ _ (below r c.opening.rings) (both _ _ _ _ (turn_of r c.turn) (both _ _ _ _ (itself _) (both _ _ _ _ (equal (length (c.part r).seen) (length c.units)) (negated (has c.units lit))))))
-    (λ h. (h.0, h.1.0, h.1.1.0, h.1.1.1.0, h.1.1.1.1)) (λ h. (h.0, (h.1, (h.2, (h.3, h.4)))))
+decides c (Publish r lit n) = other _ _ _
+    (both _ _ _ _ (below r c.opening.rings) (both _ _ _ _ (turn_of r c.turn)
+    (both _ _ _ _ (equal (length (c.part r).seen) (length c.units)) (both _ _ _ _ (negated (has c.units lit)) (lone lit ((book c.opening.formula c.journal).clause n))))))
+    (λ h. (h.0, h.1.0, h.1.1.1.1, h.1.1.0, h.1.1.1.0)) (λ h. (h.0, (h.1, (h.3, (h.4, h.2)))))
 decides c (See r) = both _ _ _ _ (below r c.opening.rings) (below (length (c.part r).seen) (length c.units))
 decides c (Stop r kind) = other _ _ _
     (both _ _ _ _ (below r c.opening.rings) (both _ _ _ _ (at_most 1 kind) (both _ _ _ _ (at_most kind 5) (implied kind (ended c.opening.formula c.journal)))))
@@ -151,3 +162,6 @@ enabled_to c e h p = true≢false (sym ((decides c e).back p) ∙ h)
 
 pub long_from : (c : List Literal) → is_long c ≡ true → IsLong c
 long_from c h = (long c).yes h
+
+pub unit_from : (l : Literal) (q : Option (List Literal)) → is_unit l q ≡ true → q ≡ Some (l ∷ [])
+unit_from l q h = (lone l q).yes h

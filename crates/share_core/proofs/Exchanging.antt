@@ -16,7 +16,7 @@ use Rattle.share_core.proofs.Counting.{counts_moved, slot_below, slots_some, slo
 use Rattle.share_core.proofs.Copies.{keeps_same}
 use Rattle.share_core.proofs.Slots.{puts_same, slots_put, slots_got}
 use Rattle.share_core.proofs.Own.{owned_same}
-use Rattle.share_core.proofs.Frames.{same_here, same_else, part_slots, copies_put, units_part, clause_is}
+use Rattle.share_core.proofs.Frames.{same_here, same_else, part_slots, copies_put, has_seen, units_part, clause_is}
 use Rattle.share_core.proofs.Tickets.{tickets_put}
 
 -- Grants
@@ -65,7 +65,7 @@ grants c r s e =
       log = s.log;
       entries = owned_same c.opening c r p s.entries refl;
       freshness = s.freshness;
-      units = units_part c r p s (s.units.seen r);
+      units = units_part c r p s (has_seen c r s);
       turns = s.turns;
       stops = s.stops;
       tickets = tickets_put c.opening c.drawn c.part r p s.tickets refl refl (λ t. t);
@@ -122,7 +122,7 @@ puts c r to k l a s e =
       log = s.log;
       entries = owned_same c.opening c r p s.entries refl;
       freshness = s.freshness;
-      units = units_part c r p s (s.units.seen r);
+      units = units_part c r p s (has_seen c r s);
       turns = s.turns;
       stops = s.stops;
       tickets = tickets_put c.opening c.drawn c.part r p s.tickets refl refl (λ t. t);
@@ -148,7 +148,7 @@ gets c r from k l s e =
       log = s.log;
       entries = owned_same c.opening c r p s.entries refl;
       freshness = s.freshness;
-      units = units_part c r p s (s.units.seen r);
+      units = units_part c r p s (has_seen c r s);
       turns = s.turns;
       stops = s.stops;
       tickets = tickets_put c.opening c.drawn c.part r p s.tickets refl refl (λ t. t);

@@ -4,6 +4,7 @@ pub mod Copies
 pub mod Slots
 pub mod Own
 pub mod Knowing
+pub mod Pairs
 pub mod Whole
 pub mod Frames
 pub mod Tickets

@@ -1,34 +1,39 @@
 -- Turns, listed units and the stop keep the state sound.
-use Rattle.std.proofs.Common.{◌≡◌, ◌⊎◌, ℕ, ◌<◌, ◌≤◌, Bool, true, false, not, List, [], ◌∷◌, ◌++◌, length, Option, Some, None, refl, sym, ap, ◌∙◌, subst, inl, inr, ⊎_elim, arith, true≢false, length-append, append-nil, append_assoc}
+use Rattle.std.proofs.Common.{◌≡◌, ◌⊎◌, ℕ, ◌+◌, ◌<◌, ◌≤◌, Bool, true, false, not, List, [], ◌∷◌, ◌++◌, length, Option, Some, None, refl, sym, ap, ◌∙◌, subst, inl, inr, ⊎_elim, arith, true≢false, length-append, append-nil, append_assoc}
 use Rattle.std.proofs.lemmas.Bool.{or_parts, and_parts, and_from}
 use Rattle.sat_words.specs.Literal.{Literal, same}
 use Rattle.sat_words.specs.Clause.{has, distinct_lits}
 use Rattle.sat_words.proofs.Members.{same-refl}
-use Rattle.rup_model.specs.Journal.{is_told}
+use Rattle.std.specs.Prelude.{slice_index_or}
+use Rattle.rup_model.specs.Journal.{book, is_told}
 use Rattle.rup_model.proofs.Lists.{In, In_has, has_In, In_append}
 use Rattle.rup_model.proofs.Sums.{at_put}
 use Rattle.share_core.specs.declared.event.Stop.{Stop as StopWord}
 use Rattle.share_core.specs.declared.event.Event.TheVariants.{Publish, See, Stop, Draw}
 use Rattle.share_core.specs.State.{Part, State}
 use Rattle.share_core.specs.Enabled.{IsEnabled}
-use Rattle.share_core.specs.Events.{unit_at, seen_part, drew_part, first_stop, after}
+use Rattle.share_core.specs.Events.{unit_at, listed_number, seen_part, drew_part, first_stop, after}
 use Rattle.share_core.specs.Sound.{Sound}
 use Rattle.share_core.proofs.Counting.{some_same}
 use Rattle.share_core.proofs.Own.{owned_same}
-use Rattle.share_core.proofs.Frames.{counts_same, part_only, part_slots, copies_put, units_part}
+use Rattle.share_core.proofs.Frames.{counts_same, part_only, part_slots, copies_put, has_seen, units_part}
+use Rattle.share_core.proofs.Pairs.{paired_last, paired_long, unit_told}
 use Rattle.share_core.proofs.Tickets.{tickets_put, tickets_drawn}
 
 -- The list of units
 
-next_unit : (us seen rest : List Literal) → us ≡ seen ++ rest → length seen < length us → (more : List Literal) × (us ≡ (seen ++ unit_at us (length seen) ∷ []) ++ more)
-next_unit us seen [] e lt = absurd (let q : length us ≡ length seen = ap length (e ∙ append-nil seen) in omega arith)
-next_unit us seen (y ∷ ys) e lt = (ys, e ∙ sym (append_assoc seen (y ∷ []) ys) ∙ ap (λ (z : Literal). (seen ++ z ∷ []) ++ ys) (sym (ap (λ (xs : List Literal). unit_at xs (length seen)) e ∙ at_end seen y ys)))
+next_at : {X : Type 0} (d : X) (us seen rest : List X) → us ≡ seen ++ rest → length seen < length us → (more : List X) × (us ≡ (seen ++ slice_index_or us (length seen) d ∷ []) ++ more)
+next_at d us seen [] e lt = absurd (let q : length us ≡ length seen = ap length (e ∙ append-nil seen) in omega arith)
+next_at {X} d us seen (y ∷ ys) e lt = (ys, e ∙ sym (append_assoc seen (y ∷ []) ys) ∙ ap (λ (z : X). (seen ++ z ∷ []) ++ ys) (sym (ap (λ (xs : List X). slice_index_or xs (length seen) d) e ∙ at_end seen y ys)))
   where
-    at_end : (seen : List Literal) (y : Literal) (ys : List Literal) → unit_at (seen ++ y ∷ ys) (length seen) ≡ y
+    at_end : (seen : List X) (y : X) (ys : List X) → slice_index_or (seen ++ y ∷ ys) (length seen) d ≡ y
     at_end [] y ys = refl
     at_end (x ∷ seen) y ys = at_end seen y ys
 
-seen_all : (us seen rest : List Literal) → us ≡ seen ++ rest → length seen ≡ length us → seen ≡ us
+one_longer : {X Y : Type 0} (xs : List X) (ys : List Y) (x : X) (y : Y) → length xs ≡ length ys → length (xs ++ x ∷ []) ≡ length (ys ++ y ∷ [])
+one_longer xs ys x y e = length-append xs (x ∷ []) ∙ ap (λ (n : ℕ). n + 1) e ∙ sym (length-append ys (y ∷ []))
+
+seen_all : {X : Type 0} (us seen rest : List X) → us ≡ seen ++ rest → length seen ≡ length us → seen ≡ us
 seen_all us seen [] e len = sym (e ∙ append-nil seen)
 seen_all us seen (y ∷ ys) e len = absurd (let q : length us ≡ length (seen ++ y ∷ ys) = ap length e in let r = length-append seen (y ∷ ys) in omega arith)
 
@@ -50,10 +55,10 @@ distinct_last (x ∷ xs) l h n =
     apart false f g i = refl
     apart true f g i = ⊎_elim (λ (t : has xs x ≡ true). absurd (true≢false (sym (sym (ap not t) ∙ g)))) (λ (t : l ≡ x). absurd (true≢false (sym (same-refl l) ∙ ap (same l) t ∙ i))) (f refl)
 
-pub publishes : (c : State) (r : ℕ) (l : Literal) → Sound c → IsEnabled c (Publish r l) → Sound (after c (Publish r l))
-publishes c r l s e =
-    let d : State = after c (Publish r l) in
-    let p : Part = seen_part l (c.part r) in
+pub publishes : (c : State) (r : ℕ) (l : Literal) (n : ℕ) → Sound c → IsEnabled c (Publish r l n) → Sound (after c (Publish r l n))
+publishes c r l n s e =
+    let d : State = after c (Publish r l n) in
+    let p : Part = seen_part l n (c.part r) in
     record {
       opens = s.opens;
       counts = part_only c d r p s e.0 refl refl refl refl refl refl refl refl (s.counts.named r);
@@ -66,11 +71,17 @@ publishes c r l s e =
       entries = owned_same c.opening c r p s.entries refl;
       freshness = s.freshness;
       units = record {
-        told = λ m h. ⊎_elim (λ (q : has c.units m ≡ true). s.units.told m q) (λ (q : l ≡ m). subst (λ (z : Literal). is_told c.opening.formula c.journal z ≡ true) q e.2) (has_last c.units l m h);
+        paired = paired_last (book c.opening.formula c.journal) c.units c.numbers l n s.units.paired e.2;
+        told = λ m h. ⊎_elim (λ (q : has c.units m ≡ true). s.units.told m q)
+            (λ (q : l ≡ m). subst (λ (z : Literal). is_told c.opening.formula c.journal z ≡ true) q (unit_told c.opening.formula c.journal n l s.log.log.fits e.2)) (has_last c.units l m h);
         distinct = distinct_last c.units l s.units.distinct e.4;
         seen = λ i. at_put c.part r p (λ (q : Part). (rest : List Literal) × (c.units ++ l ∷ [] ≡ q.seen ++ rest)) i
             (λ _. (let h = s.units.seen r in let q = seen_all c.units (c.part r).seen h.0 h.1 e.3 in ([], ap (λ (xs : List Literal). xs ++ l ∷ []) (sym q) ∙ sym (append-nil ((c.part r).seen ++ l ∷ [])))))
             (λ _. (let h = s.units.seen i in (h.0 ++ l ∷ [], ap (λ (xs : List Literal). xs ++ l ∷ []) h.1 ∙ append_assoc (c.part i).seen h.0 (l ∷ []))));
+        numbered = λ i. at_put c.part r p (λ (q : Part). (rest : List ℕ) × (c.numbers ++ n ∷ [] ≡ q.numbers ++ rest) × (length q.numbers ≡ length q.seen)) i
+            (λ _. (let h = s.units.numbered r in let q = seen_all c.numbers (c.part r).numbers h.0 h.1 (h.2 ∙ e.3 ∙ sym (paired_long (book c.opening.formula c.journal) c.units c.numbers s.units.paired)) in
+            ([], ap (λ (ns : List ℕ). ns ++ n ∷ []) (sym q) ∙ sym (append-nil ((c.part r).numbers ++ n ∷ [])), one_longer (c.part r).numbers (c.part r).seen n l h.2)))
+            (λ _. (let h = s.units.numbered i in (h.0 ++ n ∷ [], ap (λ (ns : List ℕ). ns ++ n ∷ []) h.1 ∙ append_assoc (c.part i).numbers h.0 (n ∷ []), h.2)));
       };
       turns = s.turns;
       stops = s.stops;
@@ -80,7 +91,10 @@ publishes c r l s e =
 pub sees : (c : State) (r : ℕ) → Sound c → IsEnabled c (See r) → Sound (after c (See r))
 sees c r s e =
     let d : State = after c (See r) in
-    let p : Part = seen_part (unit_at c.units (length (c.part r).seen)) (c.part r) in
+    let i : ℕ = length (c.part r).seen in
+    let l : Literal = unit_at c.units i in
+    let n : ℕ = listed_number c.numbers i in
+    let p : Part = seen_part l n (c.part r) in
     record {
       opens = s.opens;
       counts = part_only c d r p s e.0 refl refl refl refl refl refl refl refl (s.counts.named r);
@@ -92,7 +106,11 @@ sees c r s e =
       log = s.log;
       entries = owned_same c.opening c r p s.entries refl;
       freshness = s.freshness;
-      units = units_part c r p s (let h = s.units.seen r in next_unit c.units (c.part r).seen h.0 h.1 e.1);
+      units = units_part c r p s (
+        (let h = s.units.seen r in next_at (record { var = 0; neg = false }) c.units (c.part r).seen h.0 h.1 e.1),
+        (let h = s.units.numbered r in let t = paired_long (book c.opening.formula c.journal) c.units c.numbers s.units.paired in let k = next_at 0 c.numbers (c.part r).numbers h.0 h.1 (omega arith) in
+            (k.0, k.1 ∙ ap (λ (j : ℕ). ((c.part r).numbers ++ listed_number c.numbers j ∷ []) ++ k.0) h.2, one_longer (c.part r).numbers (c.part r).seen n l h.2)),
+      );
       turns = s.turns;
       stops = s.stops;
       tickets = tickets_put c.opening c.drawn c.part r p s.tickets refl refl (λ t. t);
@@ -164,7 +182,7 @@ draws c r s e =
       log = s.log;
       entries = owned_same c.opening c r p s.entries refl;
       freshness = s.freshness;
-      units = units_part c r p s (s.units.seen r);
+      units = units_part c r p s (has_seen c r s);
       turns = s.turns;
       stops = s.stops;
       tickets = tickets_drawn c.opening c.drawn c.part r s.tickets e.0 e.1 e.2;

@@ -10,6 +10,7 @@ use Rattle.sat_words.specs.Clause.{is_empty}
 use Rattle.rup_model.specs.declared.journal.Entry.{Entry}
 use Rattle.rup_model.specs.Basics.{EachAfter, one_if}
 use Rattle.rup_model.specs.Journal.{Book, book, lines, added, is_told, IsFresh, IsSpaced}
+use Rattle.rup_model.specs.NumberedLines.{IsHinted}
 use Rattle.rup_model.specs.Opening.{Start, IsLong, IsStart, start_clauses}
 use Rattle.rup_model.proofs.Lists.{In, In_map, map_In, has_In, Contains_In}
 use Rattle.rup_model.specs.Log.{alive as alive_lines}
@@ -162,13 +163,20 @@ module _ (o : CoreOpening) (op : IsCoreOpening o) where
           log = record { fits = ruler.fits; accepted = ruler.accepted; empty_last = never_empty [] o.journal ruler.going };
           room = op.room;
           begins = ([], sym (append-nil o.journal), nothing _);
+          hints = λ _. subst (EachAfter (IsHinted o.formula) o.journal) (sym (drop_all (length o.journal) o.journal (omega arith))) tt;
         };
         entries = ([], sym (append-nil o.journal), λ r lt. refl);
         freshness = record {
           fresh = subst (EachAfter (IsFresh (start_clauses (opening_of o))) []) (sym (drop_all (length o.journal) o.journal (omega arith))) tt;
           spaced = subst (EachAfter IsSpaced []) (sym (drop_all (length o.journal) o.journal (omega arith))) tt;
         };
-        units = record { told = λ l h. all_in (λ (q : Literal). is_told o.formula o.journal q ≡ true) o.units l (has_In o.units l h) op.opens.told; distinct = op.opens.distinct; seen = λ r. (o.units, refl) };
+        units = record {
+          paired = op.paired;
+          told = λ l h. all_in (λ (q : Literal). is_told o.formula o.journal q ≡ true) o.units l (has_In o.units l h) op.opens.told;
+          distinct = op.opens.distinct;
+          seen = λ r. (o.units, refl);
+          numbered = λ r. (o.numbers, refl, refl);
+        };
         turns = λ r is. absurd (none_some r is);
         stops = record { refuted = λ s is k. absurd (none_some s is); kinds = λ s is. absurd (none_some s is) };
         tickets = tickets_none o;

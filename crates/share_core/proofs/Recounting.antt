@@ -2,6 +2,7 @@
 use Rattle.std.proofs.Common.{◌≡◌, ◌≢◌, ◌⊎◌, ℕ, ◌+◌, ◌-◌, ◌<◌, ◌≤◌, ◌==◌, Bool, true, false, cond, List, [], ◌∷◌, ◌++◌, map, length, All, Option, Some, None, refl, sym, ap, ◌∙◌, subst, inl, inr, ⊎_elim, arith, eq-eqb, ne_eqb}
 use mathlib.Core.Logic.{dite}
 use native.Mathlib.Decide.{ℕ_discrete}
+use Rattle.sat_words.specs.Literal.{Literal}
 use Rattle.rup_model.specs.Basics.{put, one_if}
 use Rattle.rup_model.specs.Journal.{book, is_ring, learned}
 use Rattle.rup_model.proofs.Sums.{at_put}
@@ -18,7 +19,7 @@ use Rattle.share_core.proofs.Copies.{Keeps, lift, copies_all}
 use Rattle.share_core.proofs.Slots.{puts_same, slots_kept}
 use Rattle.share_core.proofs.Own.{owned_same}
 use Rattle.share_core.proofs.Whole.{whole_kept}
-use Rattle.share_core.proofs.Frames.{cells_kept, part_moves, same_here, same_else, units_part, clause_is}
+use Rattle.share_core.proofs.Frames.{cells_kept, part_moves, same_here, same_else, HasSeen, has_seen, units_part, clause_is}
 use Rattle.share_core.proofs.Tickets.{tickets_put}
 
 with_count_of : (n : ℕ) (q : Option Cell) (x : Cell) → with_count n q ≡ Some x → (y : Cell) × (q ≡ Some y) × (y.number ≡ x.number) × (y.lits ≡ x.lits) × (x.count ≡ n) × (x.maker ≡ None)
@@ -73,9 +74,9 @@ module _ (c : State) (s : Sound c) (a n : ℕ) where
         (λ ne. refl)
 
   -- all but the counts and the copies
-  recounts : (r : ℕ) (p : Part) → p.puts ≡ (c.part r).puts → p.wrote ≡ (c.part r).wrote → p.seen ≡ (c.part r).seen → p.ticket ≡ (c.part r).ticket → p.found ≡ (c.part r).found
+  recounts : (r : ℕ) (p : Part) → p.puts ≡ (c.part r).puts → p.wrote ≡ (c.part r).wrote → p.seen ≡ (c.part r).seen → p.numbers ≡ (c.part r).numbers → p.ticket ≡ (c.part r).ticket → p.found ≡ (c.part r).found
       → Counts c.opening (recounted c r a n p) → CopiesSound c.opening.rings (put c.cell a (with_count n (c.cell a))) (put c.part r p) → Sound (recounted c r a n p)
-  recounts r p puts wrote seen ticket found counts copies =
+  recounts r p puts wrote seen numbers ticket found counts copies =
       let d : State = recounted c r a n p in
       record {
         opens = s.opens;
@@ -88,7 +89,7 @@ module _ (c : State) (s : Sound c) (a n : ℕ) where
         log = s.log;
         entries = owned_same c.opening c r p s.entries wrote;
         freshness = s.freshness;
-        units = units_part c r p s (let h = s.units.seen r in (h.0, h.1 ∙ ap (λ (xs : List _). xs ++ h.0) (sym seen)));
+        units = units_part c r p s (subst (λ (us : List Literal). HasSeen c us p.numbers) (sym seen) (subst (HasSeen c (c.part r).seen) (sym numbers) (has_seen c r s)));
         turns = s.turns;
         stops = s.stops;
         tickets = tickets_put c.opening c.drawn c.part r p s.tickets (λ j. length (learned r (map (λ (q : Placed). q.entry) (wrote j))) + one_if (ticket j)) found (λ t. sym ticket ∙ t);
@@ -120,7 +121,7 @@ opens_cell c r a s e =
     let idle_old : idle_at (c.cell a) ≡ 0 = ap idle_at is ∙ idle_made x r maker_is in
     let nz_a : a ≢ 0 = λ q. none_some x (sym s.counts.nowhere ∙ ap c.cell (sym q) ∙ is) in
     let maker_new : maker_at (with_count 1 (c.cell a)) ≡ None = ap (λ (q : Option Cell). maker_at (with_count 1 q)) is in
-    recounts c s a 1 r p refl refl refl refl refl
+    recounts c s a 1 r p refl refl refl refl refl refl
     (part_moves c d r p s lt refl refl refl
     (λ i nz. count c s a 1 x is i (λ q. q + times_at i (c.part r).held ≡ count_at (c.cell i) + times_at i ((c.part r).held ++ h ∷ []))
     (λ q. let m = at_both i (c.part r).held (h ∷ []) in let k : count_at (c.cell i) ≡ count_at (c.cell a) = ap (λ j. count_at (c.cell j)) q in let u = at_here h i (sym q) in omega arith)
@@ -162,7 +163,7 @@ shares c r a s e =
     let count_pos : 0 < x.count = let q = t.2 in omega arith in
     let idle_old : idle_at (c.cell a) ≡ 0 = ap idle_at is ∙ idle_held x.maker x.count (λ q. omega arith) in
     let idle_new : one_if (n == 0) ≡ 0 = ap one_if (ne_eqb n 0 (λ q. omega arith)) in
-    recounts c s a n r p refl refl refl refl refl
+    recounts c s a n r p refl refl refl refl refl refl
     (part_moves c d r p s lt refl refl refl
     (λ i nz. count c s a n x is i (λ q. q + times_at i (c.part r).held ≡ count_at (c.cell i) + times_at i ((c.part r).held ++ h ∷ []))
     (λ q. let m = at_both i (c.part r).held (h ∷ []) in let k : count_at (c.cell i) ≡ count_at (c.cell a) = ap (λ j. count_at (c.cell j)) q in let u = at_here h i (sym q) in omega arith)
@@ -203,7 +204,7 @@ drops c r a s e =
     let idle_new : one_if (n == 0) ≡ one_if (found == 1) = dite (ℕ_discrete found 1)
     (λ q. ap one_if (eq-eqb n 0 (let z : found ≡ 1 = q in omega arith)) ∙ sym (ap one_if (eq-eqb found 1 q)))
     (λ q. ap one_if (ne_eqb n 0 (λ z. q (omega arith))) ∙ sym (ap one_if (ne_eqb found 1 q))) in
-    recounts c s a n r p refl refl refl refl refl
+    recounts c s a n r p refl refl refl refl refl refl
     (part_moves c d r p s lt refl refl refl
     (λ i nz. let tw = at_without a i (c.part r).held e.1 in count c s a n x is i (λ q. q + times_at i (c.part r).held ≡ count_at (c.cell i) + times_at i (without_at a (c.part r).held))
     (λ q. let k : count_at (c.cell i) ≡ count_at (c.cell a) = ap (λ j. count_at (c.cell j)) q in let u : one_if (a == i) ≡ 1 = ap one_if (eq-eqb a i (sym q)) in omega arith)

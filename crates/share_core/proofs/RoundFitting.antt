@@ -9,27 +9,27 @@ use native.Mathlib.Decide.{ℕ_discrete}
 use Rattle.sat_words.specs.Literal.{Literal}
 use Rattle.sat_words.specs.Clause.{distinct_lits, is_empty}
 use Rattle.sat_words.specs.declared.shared.TheConstants.{MAX_ENTRIES}
-use Rattle.sat_words.specs.declared.line.Line.{Line}
-use Rattle.sat_words.specs.declared.line.Line.TheVariants.{Add as AddLine, Del as DelLine}
 use Rattle.rup_model.specs.declared.journal.TheConstants.{RULER_RING}
 use Rattle.rup_model.specs.declared.journal.Round.{Round as RoundStart}
 use Rattle.rup_model.specs.declared.journal.Entry.{Entry}
 use Rattle.rup_model.specs.declared.journal.Entry.TheVariants.{Del, Round}
 use Rattle.rup_model.specs.Basics.{one_if}
 use Rattle.rup_model.specs.Journal.{Book, book, added, ended, is_told, is_ring}
-use Rattle.rup_model.specs.Opening.{Start, IsStart}
+use Rattle.rup_model.specs.Opening.{Start, IsLong, IsStart}
 use Rattle.rup_model.proofs.Lists.{In, map_In, all_In}
 use Rattle.rup_model.proofs.Units.{long_two, two_same}
 use Rattle.rup_model.proofs.Additions.{added-append}
 use Rattle.rup_model.proofs.JournalSteps.{not_added, log_dels, log_rounds}
 use Rattle.rup_model.proofs.ProgramOpening.{All_from_In}
+use Rattle.share_core.specs.declared.round_line.RoundLine.{RoundLine}
+use Rattle.share_core.specs.declared.round_line.RoundLine.TheVariants.{Add as RoundAdd, Del as RoundDel}
 use Rattle.share_core.specs.declared.stored.ClauseAt.{ClauseAt}
 use Rattle.share_core.specs.declared.stored.Cell.{Cell}
 use Rattle.share_core.specs.declared.ring.RingState.{RingState}
-use Rattle.share_core.specs.State.{times_at, maker_at}
+use Rattle.share_core.specs.State.{times_at, unit_lits, unit_numbers, ArePaired, maker_at}
 use Rattle.share_core.specs.Guards.{is_long}
 use Rattle.share_core.specs.Machine.{CoreData, state_of, Kept, no_ring}
-use Rattle.share_core.specs.NextRound.{has_lits, is_spare, IsLeast, IsEntryOf, AreEntriesOf, IsInOrder, numbers_of, start_in, round_journal, NoneBuilt, IsDeletion, IsGoing, AreDeleted, may_start, stand_apart, MayBegin}
+use Rattle.share_core.specs.NextRound.{has_lits, is_spare, IsEntryOf, AreEntriesOf, IsInOrder, numbers_of, start_in, round_journal, NoneBuilt, IsDeletion, IsGoing, AreDeleted, may_start, stand_apart, MayBegin}
 use Rattle.share_core.proofs.ClauseLists.{all_last}
 use Rattle.share_core.proofs.Deciding.{long_from}
 use Rattle.share_core.proofs.Rounding.{entries_count}
@@ -94,33 +94,35 @@ placed_there ss all h i z =
 
 -- Deletions
 
-entries_more : (F : List (List Literal)) (J : List Entry) (kept : List ℕ) (L : List Line) (E : List Entry) (l : Line) (e : Entry) → AreEntriesOf F J kept L E → IsEntryOf (book F (J ++ E)) kept l e → AreEntriesOf F J kept (L ++ l ∷ []) (E ++ e ∷ [])
+entries_more : (F : List (List Literal)) (J : List Entry) (kept : List ℕ) (L : List RoundLine) (E : List Entry) (l : RoundLine) (e : Entry) → AreEntriesOf F J kept L E → IsEntryOf (book F (J ++ E)) kept l e → AreEntriesOf F J kept (L ++ l ∷ []) (E ++ e ∷ [])
 entries_more F J kept [] [] l e h x = (subst (λ (M : List Entry). IsEntryOf (book F M) kept l e) (append-nil J) x, tt)
 entries_more F J kept [] (f ∷ E) l e h x = absurd h
 entries_more F J kept (k ∷ L) [] l e h x = absurd h
 entries_more F J kept (k ∷ L) (f ∷ E) l e h x = (h.0, entries_more F (J ++ f ∷ []) kept L E l e h.1 (subst (λ (M : List Entry). IsEntryOf (book F M) kept l e) (sym (append_assoc J (f ∷ []) E)) x))
 
-going_more : (F : List (List Literal)) (K : List Entry) (kept : List ℕ) (c : List Literal) (n : ℕ) → IsDeletion (book F K) kept (DelLine c) n → IsGoing F K → IsGoing F (K ++ Del RULER_RING n ∷ [])
-going_more F K kept c n x g = by ((book F K).clause n) refl (and_parts (not (list_any (λ m. m == n) kept)) (has_lits c ((book F K).clause n)) x.2.0).1
+going_more : (F : List (List Literal)) (K : List Entry) (kept : List ℕ) (c : List Literal) (n : ℕ) → IsLong c → is_spare (book F K) kept c n ≡ true → IsGoing F K → IsGoing F (K ++ Del RULER_RING n ∷ [])
+going_more F K kept c n long spare g = by ((book F K).clause n) refl (and_parts (not (list_any (λ m. m == n) kept)) (has_lits c ((book F K).clause n)) spare).1
   where
     by : (o : Option (List Literal)) → (book F K).clause n ≡ o → has_lits c o ≡ true → IsGoing F (K ++ Del RULER_RING n ∷ [])
     by None is h = absurd (true≢false (sym h))
-    by (Some d) is h = (log_dels F K g.0 RULER_RING n d is (two_same c d h (long_two c x.1)) g.1, ap (list_any is_empty) (added-append K (Del RULER_RING n ∷ []) ∙ append-nil (added K)) ∙ g.1)
+    by (Some d) is h = (log_dels F K g.0 RULER_RING n d is (two_same c d h (long_two c long)) g.1, ap (list_any is_empty) (added-append K (Del RULER_RING n ∷ []) ∙ append-nil (added K)) ∙ g.1)
 
 -- no line yet
 pub deleted_none : (F : List (List Literal)) (J : List Entry) (kept : List ℕ) → AreDeleted F J kept [] J
 deleted_none F J kept = record { entries = []; grows = sym (append-nil J); are = tt; ordered = λ k d lt. absurd (omega arith); going = λ g. g }
 
 -- one line more
-pub deleted_more : (F : List (List Literal)) (J : List Entry) (kept : List ℕ) (L : List Line) (K : List Entry) (l : Line) (n : ℕ) → AreDeleted F J kept L K → IsDeletion (book F K) kept l n → AreDeleted F J kept (L ++ l ∷ []) (K ++ Del RULER_RING n ∷ [])
-deleted_more F J kept L K (AddLine c) n h x = absurd x
-deleted_more F J kept L K (DelLine c) n h x = record {
-  entries = h.entries ++ Del RULER_RING n ∷ [];
-  grows = ap (λ (M : List Entry). M ++ Del RULER_RING n ∷ []) h.grows ∙ append_assoc J h.entries (Del RULER_RING n ∷ []);
-  are = entries_more F J kept L h.entries (DelLine c) (Del RULER_RING n) h.are (n, refl, subst (λ (M : List Entry). IsLeast (is_spare (book F M) kept c) n) h.grows x.2);
-  ordered = all_last IsInOrder L (DelLine c) h.ordered x.0;
-  going = λ g. going_more F K kept c n x (h.going g);
-}
+pub deleted_more : (F : List (List Literal)) (J : List Entry) (kept : List ℕ) (L : List RoundLine) (K : List Entry) (l : RoundLine) (n : ℕ) → AreDeleted F J kept L K → IsDeletion (book F K) kept l n → AreDeleted F J kept (L ++ l ∷ []) (K ++ Del RULER_RING n ∷ [])
+deleted_more F J kept L K (RoundAdd c hints) n h x = absurd x
+deleted_more F J kept L K (RoundDel m c) n h x =
+    let spare : is_spare (book F K) kept c n ≡ true = subst (λ (k : ℕ). is_spare (book F K) kept c k ≡ true) x.0 x.3 in
+    record {
+      entries = h.entries ++ Del RULER_RING n ∷ [];
+      grows = ap (λ (M : List Entry). M ++ Del RULER_RING n ∷ []) h.grows ∙ append_assoc J h.entries (Del RULER_RING n ∷ []);
+      are = entries_more F J kept L h.entries (RoundDel m c) (Del RULER_RING n) h.are (ap (λ (k : ℕ). Del RULER_RING k) (sym x.0), subst (λ (M : List Entry). is_spare (book F M) kept c m ≡ true) h.grows x.3);
+      ordered = all_last IsInOrder L (RoundDel m c) h.ordered x.1;
+      going = λ g. going_more F K kept c n x.2 spare (h.going g);
+    }
 
 -- Rings
 
@@ -153,16 +155,16 @@ none_built d k still a = by ((state_of d).cell a) refl
 
 -- All of it
 
-begins_at : (d : CoreData) (L : List Line) (start : List (ℕ × ℕ)) (units : List Literal) (limit : ℕ) (K : List Entry) → Kept d → list_all (λ (x : RingState). length x.making == 0) d.rings ≡ true
-    → ended d.formula d.journal ≡ false → limit ≤ 2 ^ 63 → (h : AreDeleted d.formula d.journal (numbers_of start) L K) → let M : List Entry = round_journal d.journal h.entries start units in length M ≤ MAX_ENTRIES
-    → list_all may_start (map (start_in (book d.formula M)) start) ≡ true → stand_apart (map (start_in (book d.formula M)) start) ≡ true → list_all (is_told d.formula M) units ≡ true → distinct_lits units ≡ true
-    → MayBegin (state_of d) L start units limit
-begins_at d L start units limit K k still going few h room fit apart told once_each =
-    let M : List Entry = round_journal d.journal h.entries start units in
+begins_at : (d : CoreData) (L : List RoundLine) (start : List (ℕ × ℕ)) (units : List (Literal × ℕ)) (limit : ℕ) (K : List Entry) → Kept d → list_all (λ (x : RingState). length x.making == 0) d.rings ≡ true
+    → ended d.formula d.journal ≡ false → limit ≤ 2 ^ 63 → (h : AreDeleted d.formula d.journal (numbers_of start) L K) → let M : List Entry = round_journal d.journal h.entries start (unit_lits units) in length M ≤ MAX_ENTRIES
+    → list_all may_start (map (start_in (book d.formula M)) start) ≡ true → stand_apart (map (start_in (book d.formula M)) start) ≡ true → list_all (is_told d.formula M) (unit_lits units) ≡ true → distinct_lits (unit_lits units) ≡ true
+    → ArePaired (book d.formula M) (unit_lits units) (unit_numbers units) → MayBegin (state_of d) L start units limit
+begins_at d L start units limit K k still going few h room fit apart told once_each pairs =
+    let M : List Entry = round_journal d.journal h.entries start (unit_lits units) in
     let ss : List ClauseAt = map (start_in (book d.formula M)) start in
     let o = k.sound.opens in
     let g = h.going (k.sound.log.log, not_added d.formula d.journal going) in
-    let x : RoundStart = record { starts = numbers_of start; units = units } in
+    let x : RoundStart = record { starts = numbers_of start; units = unit_lits units } in
     let log = log_rounds d.formula K g.0 x g.1 in
     let same : K ++ Round x ∷ [] ≡ M = ap (λ (N : List Entry). N ++ Round x ∷ []) h.grows in
     let more : list_any is_empty (added (K ++ Round x ∷ [])) ≡ false = ap (list_any is_empty) (added-append K (Round x ∷ []) ∙ append-nil (added K)) ∙ g.1 in
@@ -185,44 +187,47 @@ begins_at d L start units limit K k still going few h room fit apart told once_e
               going = all.1;
               starts = All_from_In _ _ (start_fits (book d.formula M) start fit);
               numbers = distinct ss apart;
-              told = AllPass-from_list_all (is_told d.formula M) units told;
+              told = AllPass-from_list_all (is_told d.formula M) (unit_lits units) told;
               distinct = once_each;
             };
             room = room;
             placed = All_from_In _ _ (placed_there ss fit);
             apart = once ss apart;
+            paired = pairs;
             limited = few;
           };
         },
       );
     }
 
-pub may_from : (d : CoreData) (L : List Line) (start : List (ℕ × ℕ)) (units : List Literal) (limit : ℕ) (K M : List Entry) (ss : List ClauseAt) → Kept d → list_all (λ (x : RingState). length x.making == 0) d.rings ≡ true
-    → ended d.formula d.journal ≡ false → limit ≤ 2 ^ 63 → AreDeleted d.formula d.journal (numbers_of start) L K → M ≡ K ++ Round (record { starts = numbers_of start; units = units }) ∷ [] → length M ≤ MAX_ENTRIES
-    → ss ≡ map (start_in (book d.formula M)) start → list_all may_start ss ≡ true → stand_apart ss ≡ true → list_all (is_told d.formula M) units ≡ true → distinct_lits units ≡ true
-    → MayBegin (state_of d) L start units limit
-may_from d L start units limit K M ss k still going few h pushed room starts fit apart told once_each =
-    let Ms : M ≡ round_journal d.journal h.entries start units = pushed ∙ ap (λ (N : List Entry). N ++ Round (record { starts = numbers_of start; units = units }) ∷ []) h.grows in
-    let sss : ss ≡ map (start_in (book d.formula (round_journal d.journal h.entries start units))) start = starts ∙ ap (λ (N : List Entry). map (start_in (book d.formula N)) start) Ms in
+pub may_from : (d : CoreData) (L : List RoundLine) (start : List (ℕ × ℕ)) (units : List (Literal × ℕ)) (limit : ℕ) (K M : List Entry) (ss : List ClauseAt) → Kept d → list_all (λ (x : RingState). length x.making == 0) d.rings ≡ true
+    → ended d.formula d.journal ≡ false → limit ≤ 2 ^ 63 → AreDeleted d.formula d.journal (numbers_of start) L K → M ≡ K ++ Round (record { starts = numbers_of start; units = unit_lits units }) ∷ [] → length M ≤ MAX_ENTRIES
+    → ss ≡ map (start_in (book d.formula M)) start → list_all may_start ss ≡ true → stand_apart ss ≡ true → list_all (is_told d.formula M) (unit_lits units) ≡ true → distinct_lits (unit_lits units) ≡ true
+    → ArePaired (book d.formula M) (unit_lits units) (unit_numbers units) → MayBegin (state_of d) L start units limit
+may_from d L start units limit K M ss k still going few h pushed room starts fit apart told once_each pairs =
+    let Ms : M ≡ round_journal d.journal h.entries start (unit_lits units) = pushed ∙ ap (λ (N : List Entry). N ++ Round (record { starts = numbers_of start; units = unit_lits units }) ∷ []) h.grows in
+    let sss : ss ≡ map (start_in (book d.formula (round_journal d.journal h.entries start (unit_lits units)))) start = starts ∙ ap (λ (N : List Entry). map (start_in (book d.formula N)) start) Ms in
     begins_at d L start units limit K k still going few h (subst (λ (N : List Entry). length N ≤ MAX_ENTRIES) Ms room) (subst (λ (xs : List ClauseAt). list_all may_start xs ≡ true) sss fit)
-    (subst (λ (xs : List ClauseAt). stand_apart xs ≡ true) sss apart) (subst (λ (N : List Entry). list_all (is_told d.formula N) units ≡ true) Ms told) once_each
+    (subst (λ (xs : List ClauseAt). stand_apart xs ≡ true) sss apart) (subst (λ (N : List Entry). list_all (is_told d.formula N) (unit_lits units) ≡ true) Ms told) once_each
+    (subst (λ (N : List Entry). ArePaired (book d.formula N) (unit_lits units) (unit_numbers units)) Ms pairs)
 
 -- the deletions are as many as the lines
-pub deleted_room : (F : List (List Literal)) (J : List Entry) (kept : List ℕ) (L : List Line) (K : List Entry) → AreDeleted F J kept L K → length K ≡ length J + length L
+pub deleted_room : (F : List (List Literal)) (J : List Entry) (kept : List ℕ) (L : List RoundLine) (K : List Entry) → AreDeleted F J kept L K → length K ≡ length J + length L
 deleted_room F J kept L K h = let a = ap length h.grows in let b = length-append J h.entries in let n = entries_count F kept J L h.entries h.are in omega arith
 
 -- the tests are the conditions
-pub may_fit : (d : CoreData) (L : List Line) (start : List (ℕ × ℕ)) (units : List Literal) (limit : ℕ) (G : List (List Literal)) (J K M : List Entry) (kept ns : List ℕ) (us : List Literal) (ss : List ClauseAt) → Kept d
+pub may_fit : (d : CoreData) (L : List RoundLine) (start : List (ℕ × ℕ)) (units : List (Literal × ℕ)) (limit : ℕ) (G : List (List Literal)) (J K M : List Entry) (kept ns : List ℕ) (us : List Literal) (ss : List ClauseAt) → Kept d
     → list_all (λ (x : RingState). length x.making == 0) d.rings ≡ true → ended d.formula d.journal ≡ false → limit ≤ 2 ^ 63 → length d.journal + length L < MAX_ENTRIES → G ≡ d.formula → J ≡ d.journal → kept ≡ numbers_of start
-    → AreDeleted G J kept L K → ns ≡ numbers_of start → us ≡ units → M ≡ K ++ Round (record { starts = ns; units = us }) ∷ [] → ss ≡ map (start_in (book G M)) start
-    → (list_all may_start ss && (stand_apart ss && (list_all (is_told G M) units && distinct_lits units))) ≡ true → MayBegin (state_of d) L start units limit
-may_fit d L start units limit G J K M kept ns us ss k still going few small Gs Js keeps h nss uss pushed starts all =
+    → AreDeleted G J kept L K → ns ≡ numbers_of start → us ≡ unit_lits units → M ≡ K ++ Round (record { starts = ns; units = us }) ∷ [] → ss ≡ map (start_in (book G M)) start
+    → (list_all may_start ss && (stand_apart ss && (list_all (is_told G M) (unit_lits units) && distinct_lits (unit_lits units)))) ≡ true → ArePaired (book G M) (unit_lits units) (unit_numbers units) → MayBegin (state_of d) L start units limit
+may_fit d L start units limit G J K M kept ns us ss k still going few small Gs Js keeps h nss uss pushed starts all pairs =
     let x : AreDeleted d.formula d.journal (numbers_of start) L K = subst (λ (ms : List ℕ). AreDeleted d.formula d.journal ms L K) keeps (subst (λ (N : List Entry). AreDeleted d.formula N kept L K) Js (subst (λ (H : List (List Literal)). AreDeleted H J kept L K) Gs h)) in
-    let ps : M ≡ K ++ Round (record { starts = numbers_of start; units = units }) ∷ [] = pushed ∙ (λ j. K ++ Round (record { starts = nss j; units = uss j }) ∷ []) in
+    let ps : M ≡ K ++ Round (record { starts = numbers_of start; units = unit_lits units }) ∷ [] = pushed ∙ (λ j. K ++ Round (record { starts = nss j; units = uss j }) ∷ []) in
     let n = deleted_room d.formula d.journal (numbers_of start) L K x in
     let m = ap length ps in
-    let l = length-append K (Round (record { starts = numbers_of start; units = units }) ∷ []) in
+    let l = length-append K (Round (record { starts = numbers_of start; units = unit_lits units }) ∷ []) in
     let a = and_parts (list_all may_start ss) _ all in
     let b = and_parts (stand_apart ss) _ a.1 in
-    let t = and_parts (list_all (is_told G M) units) (distinct_lits units) b.1 in
-    may_from d L start units limit K M ss k still going few x ps (omega arith) (starts ∙ ap (λ (H : List (List Literal)). map (start_in (book H M)) start) Gs) a.0 b.0 (subst (λ (H : List (List Literal)). list_all (is_told H M) units ≡ true) Gs t.0) t.1
+    let t = and_parts (list_all (is_told G M) (unit_lits units)) (distinct_lits (unit_lits units)) b.1 in
+    may_from d L start units limit K M ss k still going few x ps (omega arith) (starts ∙ ap (λ (H : List (List Literal)). map (start_in (book H M)) start) Gs) a.0 b.0 (subst (λ (H : List (List Literal)). list_all (is_told H M) (unit_lits units) ≡ true) Gs t.0) t.1
+    (subst (λ (H : List (List Literal)). ArePaired (book H M) (unit_lits units) (unit_numbers units)) Gs pairs)

@@ -1,30 +1,29 @@
 -- What the ruler's lines become is told by the lines alone.
-use Rattle.std.proofs.Common.{◌≡◌, ◌⊎◌, ℕ, zero, suc, ◌+◌, ◌<◌, ◌≤◌, ◌==◌, not, Bool, true, false, List, [], ◌∷◌, ◌++◌, All, map, length, take, fold, get_or, Option, Some, None, Result, Ok, Err, IfOk, refl, sym, ap, ◌∙◌, subst, inl, inr, ⊎_elim, arith, true≢false, append-nil, append_assoc, length-append, cond}
+use Rattle.std.proofs.Common.{◌≡◌, ℕ, zero, suc, ◌+◌, ◌<◌, ◌≤◌, ◌==◌, not, true, false, List, [], ◌∷◌, ◌++◌, All, map, length, take, get_or, Option, Some, None, Result, Ok, Err, IfOk, refl, sym, ap, ◌∙◌, subst, arith, true≢false, append-nil, append_assoc, length-append, cond}
 use Rattle.std.specs.declared.alloc.AllocError.{AllocError}
 use Rattle.std.specs.List.{list_any, slice_get}
-use Rattle.std.proofs.lemmas.Bool.{and_parts, cases_lt}
-use Rattle.std.proofs.lemmas.List.{take_all, take_more}
+use Rattle.std.proofs.lemmas.Bool.{and_parts}
+use Rattle.std.proofs.lemmas.List.{take_all, take_more, map-append}
 use Rattle.std.proofs.lemmas.List.Elements.{All-head, All-tail}
 use Rattle.std.specs.Option.{option_map, unwrap_or}
 use Rattle.sat_words.specs.Literal.{Literal}
 use Rattle.sat_words.specs.Clause.{InOrder, clause_of}
 use Rattle.sat_words.specs.declared.line.Line.{Line}
-use Rattle.sat_words.specs.declared.line.Line.TheVariants.{Add as AddLine, Del as DelLine}
+use Rattle.sat_words.specs.declared.line.Line.TheVariants.{Del as DelLine}
 use Rattle.sat_words.proofs.Insertion.{clause_of_in_order, clause_of_alike}
-use Rattle.rup_model.specs.declared.journal.TheConstants.{RULER_RING}
 use Rattle.rup_model.specs.declared.journal.Entry.{Entry}
-use Rattle.rup_model.specs.declared.journal.Entry.TheVariants.{Add, Del, Reduce, Round}
+use Rattle.rup_model.specs.declared.journal.Entry.TheVariants.{Round}
 use Rattle.rup_model.specs.declared.journal.Round.{Round as RoundStart}
-use Rattle.rup_model.specs.Journal.{formula_clause, formula_book, spelled, Book, book_after, book, lines, lines_after}
-use Rattle.rup_model.proofs.Sums.{at_put}
+use Rattle.rup_model.specs.Journal.{formula_clause, Book, book_after, book, lines, lines_after}
 use Rattle.rup_model.proofs.Covers.{same_has}
-use Rattle.rup_model.proofs.Respelling.{respelled_none}
-use Rattle.rup_model.proofs.Numbers.{formula_matches, lines_last}
+use Rattle.rup_model.proofs.Numbers.{lines_last}
 use Rattle.sat_words.specs.declared.shared.TheConstants.{MAX_ENTRIES}
 use Rattle.share_core.specs.declared.stored.ClauseAt.{ClauseAt}
-use Rattle.share_core.specs.State.{CoreOpening, State, opened}
+use Rattle.share_core.specs.declared.round_line.RoundLine.{RoundLine}
+use Rattle.share_core.specs.declared.round_line.RoundLine.TheVariants.{Add as RoundAdd, Del as RoundDel}
+use Rattle.share_core.specs.State.{CoreOpening, unit_lits, unit_numbers, State, opened}
 use Rattle.share_core.specs.Machine.{CoreData, state_of}
-use Rattle.share_core.specs.NextRound.{has_lits, is_spare, IsLeast, IsEntryOf, AreEntriesOf, IsInOrder, numbers_of, start_in, round_journal, next_opening, IsNextRound}
+use Rattle.share_core.specs.NextRound.{line_of, has_lits, entry_of, IsEntryOf, AreEntriesOf, IsInOrder, numbers_of, start_in, round_journal, next_opening, IsNextRound}
 
 -- The clauses under a number
 
@@ -44,48 +43,10 @@ round_spells b x n c is e = ap (option_map clause_of) e ∙ (λ j. cond (sym is 
 pub round_leaves : (b : Book) (x : RoundStart) (n : ℕ) (c : Option (List Literal)) → list_any (λ m. m == n) x.starts ≡ false → c ≡ b.clause n → c ≡ (book_after b (Round x)).clause n
 round_leaves b x n c is e = e ∙ (λ j. cond (sym is j) (option_map clause_of (b.clause n)) (b.clause n))
 
--- no clause has the next number yet, nor one above it
-none_above : (b : Book) (K : List Entry) → ((n : ℕ) → b.next ≤ n → b.clause n ≡ None) → (n : ℕ) → (fold book_after b K).next ≤ n → (fold book_after b K).clause n ≡ None
-none_above b [] h n le = h n le
-none_above b (e ∷ K) h n le = none_above (book_after b e) K (one e) n le
-  where
-    one : (x : Entry) (m : ℕ) → (book_after b x).next ≤ m → (book_after b x).clause m ≡ None
-    one (Add x) m l = at_put b.clause b.next (Some (spelled x)) (λ (q : Option (List Literal)). q ≡ None) m (λ e. absurd (omega arith)) (λ ne. h m (omega arith))
-    one (Del r k) m l = at_put b.clause k None (λ (q : Option (List Literal)). q ≡ None) m (λ e. refl) (λ ne. h m l)
-    one (Reduce r) m l = h m l
-    one (Round x) m l = respelled_none x.starts b.clause m (h m l)
-
--- a clause that is spare has a number below the next
-pub spare_below : (F : List (List Literal)) (J : List Entry) (kept : List ℕ) (c : List Literal) (n : ℕ) → is_spare (book F J) kept c n ≡ true → n < (book F J).next
-spare_below F J kept c n is = ⊎_elim (λ lt. lt)
-    (λ ge. let none = none_above (formula_book F) J (formula_matches F).above n ge in
-    absurd (true≢false (sym (and_parts (not (list_any (λ m. m == n) kept)) (has_lits c ((book F J).clause n)) is).1 ∙ ap (has_lits c) none)))
-    (cases_lt n (book F J).next)
-
 -- Entries of lines
 
--- there is one least number
-pub least_once : (p : ℕ → Bool) (m n : ℕ) → IsLeast p m → IsLeast p n → m ≡ n
-least_once p m n x y = by (nat_cases m n)
-  where
-    nat_cases : (i j : ℕ) → (i < j) ⊎ ((i ≡ j) ⊎ (j < i))
-    nat_cases zero zero = inr (inl refl)
-    nat_cases zero (suc j) = inl (omega arith)
-    nat_cases (suc i) zero = inr (inr (omega arith))
-    nat_cases (suc i) (suc j) = ⊎_elim (λ lt. inl (omega arith)) (λ q. ⊎_elim (λ e. inr (inl (ap suc e))) (λ gt. inr (inr (omega arith))) q) (nat_cases i j)
-
-    by : (m < n) ⊎ ((m ≡ n) ⊎ (n < m)) → m ≡ n
-    by (inl lt) = absurd (true≢false (sym x.0 ∙ y.1 m lt))
-    by (inr (inl e)) = e
-    by (inr (inr gt)) = absurd (true≢false (sym y.0 ∙ x.1 n gt))
-
--- a line has one entry
-pub entry_once : (b : Book) (kept : List ℕ) (l : Line) (e f : Entry) → IsEntryOf b kept l e → IsEntryOf b kept l f → e ≡ f
-entry_once b kept (AddLine c) e f x y = x ∙ sym y
-entry_once b kept (DelLine c) e f x y = x.1 ∙ ap (λ (n : ℕ). Del RULER_RING n) (least_once (is_spare b kept c) x.0 y.0 x.2 y.2) ∙ sym y.1
-
 -- the entry of the line at a place
-pub entry_at : (F : List (List Literal)) (kept : List ℕ) (J : List Entry) (L : List Line) (E : List Entry) (i : ℕ) (d : Line) → AreEntriesOf F J kept L E → i < length L
+pub entry_at : (F : List (List Literal)) (kept : List ℕ) (J : List Entry) (L : List RoundLine) (E : List Entry) (i : ℕ) (d : RoundLine) → AreEntriesOf F J kept L E → i < length L
     → (e : Entry) × (take (suc i) E ≡ take i E ++ e ∷ []) × IsEntryOf (book F (J ++ take i E)) kept (get_or L i d) e
 entry_at F kept J [] E i d h lt = absurd (omega arith)
 entry_at F kept J (l ∷ L) [] i d h lt = absurd h
@@ -94,96 +55,90 @@ entry_at F kept J (l ∷ L) (e ∷ E) (suc i) d h lt = let t = entry_at F kept (
     (t.0, ap (λ (K : List Entry). e ∷ K) t.1, subst (λ (K : List Entry). IsEntryOf (book F K) kept (get_or L i d) t.0) (append_assoc J (e ∷ []) (take i E)) t.2)
 
 -- there are as many entries as lines
-pub entries_count : (F : List (List Literal)) (kept : List ℕ) (J : List Entry) (L : List Line) (E : List Entry) → AreEntriesOf F J kept L E → length E ≡ length L
+pub entries_count : (F : List (List Literal)) (kept : List ℕ) (J : List Entry) (L : List RoundLine) (E : List Entry) → AreEntriesOf F J kept L E → length E ≡ length L
 entries_count F kept J [] [] h = refl
 entries_count F kept J [] (e ∷ E) h = absurd h
 entries_count F kept J (l ∷ L) [] h = absurd h
 entries_count F kept J (l ∷ L) (e ∷ E) h = let r = entries_count F kept (J ++ e ∷ []) L E h.1 in omega arith
 
 -- the next entry is that of the next line
-pub entry_next : (F : List (List Literal)) (kept : List ℕ) (J K : List Entry) (L : List Line) (i : ℕ) (l : Line) (e : Entry) (E : List Entry) → AreEntriesOf F J kept L E → i < length L → l ≡ get_or L i l
-    → K ≡ J ++ take i E → IsEntryOf (book F K) kept l e → K ++ e ∷ [] ≡ J ++ take (i + 1) E
+pub entry_next : (F : List (List Literal)) (kept : List ℕ) (J K : List Entry) (L : List RoundLine) (i : ℕ) (l : RoundLine) (e : Entry) (E : List Entry) → AreEntriesOf F J kept L E → i < length L → l ≡ get_or L i l
+    → K ≡ J ++ take i E → e ≡ entry_of (book F K) l → K ++ e ∷ [] ≡ J ++ take (i + 1) E
 entry_next F kept J K L i l e E h lt at is own =
     let t = entry_at F kept J L E i l h lt in
     let z : suc i ≡ i + 1 = omega arith in
-    let other : IsEntryOf (book F (J ++ take i E)) kept l t.0 = subst (λ (x : Line). IsEntryOf (book F (J ++ take i E)) kept x t.0) (sym at) t.2 in
-    let same : e ≡ t.0 = entry_once (book F (J ++ take i E)) kept l e t.0 (subst (λ (M : List Entry). IsEntryOf (book F M) kept l e) is own) other in
+    let same : e ≡ t.0 = own ∙ (λ j. entry_of (book F (is j)) (at j)) ∙ sym t.2.0 in
     (λ j. is j ++ same j ∷ []) ∙ append_assoc J (take i E) (t.0 ∷ []) ∙ ap (λ (M : List Entry). J ++ M) (sym t.1 ∙ ap (λ (k : ℕ). take k E) z)
 
 -- all entries are there once all lines are
-pub entries_end : (F : List (List Literal)) (kept : List ℕ) (J : List Entry) (L : List Line) (i : ℕ) (E : List Entry) → AreEntriesOf F J kept L E → length L ≤ i → take i E ≡ E
+pub entries_end : (F : List (List Literal)) (kept : List ℕ) (J : List Entry) (L : List RoundLine) (i : ℕ) (E : List Entry) → AreEntriesOf F J kept L E → length L ≤ i → take i E ≡ E
 entries_end F kept J L i E h le = let n = entries_count F kept J L E h in take_all i E (omega arith)
 
 -- one more line is told
-pub line_next : (T U V : List Line) (L : List Line) (i : ℕ) (l k : Line) → i < length L → l ≡ get_or L i l → k ≡ l → U ≡ T ++ take i L → V ≡ U ++ k ∷ [] → V ≡ T ++ take (i + 1) L
-line_next T U V L i l k lt at same is more = more ∙ (λ j. is j ++ same j ∷ []) ∙ append_assoc T (take i L) (l ∷ []) ∙ ap (λ (M : List Line). T ++ M) (sym (take_more L i l lt ∙ (λ j. take i L ++ sym at j ∷ [])))
+pub line_next : (T U V : List Line) (L : List RoundLine) (i : ℕ) (l : RoundLine) (k : Line) → i < length L → l ≡ get_or L i l → k ≡ line_of l → U ≡ T ++ map line_of (take i L) → V ≡ U ++ k ∷ [] → V ≡ T ++ map line_of (take (i + 1) L)
+line_next T U V L i l k lt at same is more =
+    let next : take (i + 1) L ≡ take i L ++ l ∷ [] = take_more L i l lt ∙ (λ j. take i L ++ sym at j ∷ []) in
+    more ∙ (λ j. is j ++ same j ∷ []) ∙ append_assoc T (map line_of (take i L)) (line_of l ∷ [])
+    ∙ ap (λ (M : List Line). T ++ M) (sym (ap (map line_of) next ∙ map-append line_of (take i L) (l ∷ [])))
 
 -- What the entries tell
 
 -- the line of a line's entry is that line
-told_entry : (b : Book) (kept : List ℕ) (l : Line) (e : Entry) → IsEntryOf b kept l e → IsInOrder l → lines_after b e ≡ l ∷ []
-told_entry b kept (AddLine c) e h s = ap (lines_after b) h
-told_entry b kept (DelLine c) e h s = ap (lines_after b) h.1 ∙ by (b.clause h.0) (and_parts (not (list_any (λ m. m == h.0) kept)) (has_lits c (b.clause h.0)) h.2.0).1
+told_entry : (b : Book) (kept : List ℕ) (l : RoundLine) (e : Entry) → IsEntryOf b kept l e → IsInOrder l → lines_after b e ≡ line_of l ∷ []
+told_entry b kept (RoundAdd c hints) e h s = ap (lines_after b) h.0
+told_entry b kept (RoundDel n c) e h s = ap (lines_after b) h.0 ∙ by (b.clause n) (and_parts (not (list_any (λ m. m == n) kept)) (has_lits c (b.clause n)) h.1).1
   where
     by : (o : Option (List Literal)) → has_lits c o ≡ true → ◌≡◌ {A = List Line} (DelLine (clause_of (unwrap_or o [])) ∷ []) (DelLine c ∷ [])
     by None q = absurd (true≢false (sym q))
     by (Some d) q = ap (λ (x : List Literal). DelLine x ∷ []) (clause_of_alike d c (λ l. sym (same_has c d q l)) ∙ s)
 
 -- the lines of the entries are these lines
-pub told_lines : (F : List (List Literal)) (kept : List ℕ) (J : List Entry) (L : List Line) (E : List Entry) → AreEntriesOf F J kept L E → All IsInOrder L → lines F (J ++ E) ≡ lines F J ++ L
+pub told_lines : (F : List (List Literal)) (kept : List ℕ) (J : List Entry) (L : List RoundLine) (E : List Entry) → AreEntriesOf F J kept L E → All IsInOrder L → lines F (J ++ E) ≡ lines F J ++ map line_of L
 told_lines F kept J [] [] h s = ap (lines F) (append-nil J) ∙ sym (append-nil (lines F J))
 told_lines F kept J [] (e ∷ E) h s = absurd h
 told_lines F kept J (l ∷ L) [] h s = absurd h
 told_lines F kept J (l ∷ L) (e ∷ E) h s =
     ap (lines F) (sym (append_assoc J (e ∷ []) E))
     ∙ told_lines F kept (J ++ e ∷ []) L E h.1 (All-tail IsInOrder l L s)
-    ∙ (λ j. lines_last F J e j ++ L)
-    ∙ (λ j. (lines F J ++ told_entry (book F J) kept l e h.0 (All-head IsInOrder l L s) j) ++ L)
-    ∙ append_assoc (lines F J) (l ∷ []) L
+    ∙ (λ j. lines_last F J e j ++ map line_of L)
+    ∙ (λ j. (lines F J ++ told_entry (book F J) kept l e h.0 (All-head IsInOrder l L s) j) ++ map line_of L)
+    ∙ append_assoc (lines F J) (line_of l ∷ []) (map line_of L)
 
 -- and the beginning of a round tells nothing
-pub told_round : (F : List (List Literal)) (kept : List ℕ) (J : List Entry) (L : List Line) (E : List Entry) (x : RoundStart) → AreEntriesOf F J kept L E → All IsInOrder L → lines F ((J ++ E) ++ Round x ∷ []) ≡ lines F J ++ L
+pub told_round : (F : List (List Literal)) (kept : List ℕ) (J : List Entry) (L : List RoundLine) (E : List Entry) (x : RoundStart) → AreEntriesOf F J kept L E → All IsInOrder L → lines F ((J ++ E) ++ Round x ∷ []) ≡ lines F J ++ map line_of L
 told_round F kept J L E x h s = lines_last F (J ++ E) (Round x) ∙ append-nil (lines F (J ++ E)) ∙ told_lines F kept J L E h s
 
 -- The opening of the next round
 
 -- there is room for as many entries as lines
-pub round_room : (c : State) (L : List Line) (start : List (ℕ × ℕ)) (units : List Literal) (limit : ℕ) (E : List Entry) → IsNextRound c L start units limit E → length c.journal + length L ≤ MAX_ENTRIES
+pub round_room : (c : State) (L : List RoundLine) (start : List (ℕ × ℕ)) (units : List (Literal × ℕ)) (limit : ℕ) (E : List Entry) → IsNextRound c L start units limit E → length c.journal + length L ≤ MAX_ENTRIES
 round_room c L start units limit E h =
     let r = h.opens.room in
     let n = entries_count c.opening.formula (numbers_of start) c.journal L E h.entries in
     let a = length-append c.journal E in
-    let b = length-append (c.journal ++ E) (Round (record { starts = numbers_of start; units = units }) ∷ []) in
+    let b = length-append (c.journal ++ E) (Round (record { starts = numbers_of start; units = unit_lits units }) ∷ []) in
     omega arith
 
 -- what has these parts is the opening
-pub round_opens : (c : State) (start : List (ℕ × ℕ)) (units : List Literal) (limit : ℕ) (E : List Entry) (R : ℕ) (ns : List ℕ) (us : List Literal) (J K M : List Entry) (F : List (List Literal)) (ss : List ClauseAt)
-    → R ≡ c.opening.rings → J ≡ c.journal ++ E → ns ≡ numbers_of start → us ≡ units → K ≡ J ++ Round (record { starts = ns; units = us }) ∷ [] → F ≡ c.opening.formula → M ≡ K → ss ≡ map (start_in (book F M)) start
-    → ◌≡◌ {A = CoreOpening} (record { formula = c.opening.formula; rings = R; depth = c.opening.depth; journal = K; starts = ss; units = units; limit = limit }) (next_opening c E start units limit)
+pub round_opens : (c : State) (start : List (ℕ × ℕ)) (units : List (Literal × ℕ)) (limit : ℕ) (E : List Entry) (R : ℕ) (ns : List ℕ) (us : List Literal) (J K M : List Entry) (F : List (List Literal)) (ss : List ClauseAt)
+    → R ≡ c.opening.rings → J ≡ c.journal ++ E → ns ≡ numbers_of start → us ≡ unit_lits units → K ≡ J ++ Round (record { starts = ns; units = us }) ∷ [] → F ≡ c.opening.formula → M ≡ K → ss ≡ map (start_in (book F M)) start
+    → ◌≡◌ {A = CoreOpening} (record { formula = c.opening.formula; rings = R; depth = c.opening.depth; journal = K; starts = ss; units = unit_lits units; numbers = unit_numbers units; limit = limit; hinted = c.opening.hinted }) (next_opening c E start units limit)
 round_opens c start units limit E R ns us J K M F ss rings added numbers listed pushed formula same starts =
-    let Ks : K ≡ round_journal c.journal E start units = pushed ∙ (λ j. added j ++ Round (record { starts = numbers j; units = listed j }) ∷ []) in
-    let all : ss ≡ map (start_in (book c.opening.formula (round_journal c.journal E start units))) start = starts ∙ (λ j. map (start_in (book (formula j) ((same ∙ Ks) j))) start) in
-    λ j. record { formula = c.opening.formula; rings = rings j; depth = c.opening.depth; journal = Ks j; starts = all j; units = units; limit = limit }
+    let Ks : K ≡ round_journal c.journal E start (unit_lits units) = pushed ∙ (λ j. added j ++ Round (record { starts = numbers j; units = listed j }) ∷ []) in
+    let all : ss ≡ map (start_in (book c.opening.formula (round_journal c.journal E start (unit_lits units)))) start = starts ∙ (λ j. map (start_in (book (formula j) ((same ∙ Ks) j))) start) in
+    λ j. record { formula = c.opening.formula; rings = rings j; depth = c.opening.depth; journal = Ks j; starts = all j; units = unit_lits units; numbers = unit_numbers units; limit = limit; hinted = c.opening.hinted }
 
 -- the lines of what is opened are those of its opening
 pub opened_lines : (r : Result CoreData AllocError) (o : CoreOpening) (L : List Line) → IfOk r (λ core. state_of core ≡ opened o) → lines o.formula o.journal ≡ L → IfOk r (λ core. lines core.formula core.journal ≡ L)
 opened_lines (Ok d) o L is told = (λ j. lines (is j).opening.formula (is j).journal) ∙ told
 opened_lines (Err e) o L is told = tt
 
--- equal clauses and numbers have the same entries
-pub entries_from : (F G : List (List Literal)) (J : List Entry) (kept ns : List ℕ) (L : List Line) (E : List Entry) → G ≡ F → ns ≡ kept → AreEntriesOf F J kept L E → AreEntriesOf G J ns L E
-entries_from F G J kept ns L E f n h = subst (λ (H : List (List Literal)). AreEntriesOf H J ns L E) (sym f) (subst (λ (ms : List ℕ). AreEntriesOf F J ms L E) (sym n) h)
+-- equal clauses have the same entries
+pub entries_from : (F G : List (List Literal)) (J : List Entry) (kept : List ℕ) (L : List RoundLine) (E : List Entry) → G ≡ F → AreEntriesOf F J kept L E → AreEntriesOf G J kept L E
+entries_from F G J kept L E f h = subst (λ (H : List (List Literal)). AreEntriesOf H J kept L E) (sym f) h
 
 -- there is room for the journal that begins the round
-pub round_fits : (c : State) (L : List Line) (start : List (ℕ × ℕ)) (units : List Literal) (limit : ℕ) (E : List Entry) (ns : List ℕ) (us : List Literal) (J K M : List Entry) → IsNextRound c L start units limit E
-    → J ≡ c.journal ++ E → ns ≡ numbers_of start → us ≡ units → K ≡ J ++ Round (record { starts = ns; units = us }) ∷ [] → M ≡ K → length M ≤ MAX_ENTRIES
+pub round_fits : (c : State) (L : List RoundLine) (start : List (ℕ × ℕ)) (units : List (Literal × ℕ)) (limit : ℕ) (E : List Entry) (ns : List ℕ) (us : List Literal) (J K M : List Entry) → IsNextRound c L start units limit E
+    → J ≡ c.journal ++ E → ns ≡ numbers_of start → us ≡ unit_lits units → K ≡ J ++ Round (record { starts = ns; units = us }) ∷ [] → M ≡ K → length M ≤ MAX_ENTRIES
 round_fits c L start units limit E ns us J K M h added numbers listed pushed same =
     subst (λ (N : List Entry). length N ≤ MAX_ENTRIES) (sym (same ∙ pushed ∙ (λ j. added j ++ Round (record { starts = numbers j; units = listed j }) ∷ []))) h.opens.room
-
--- where no number below the next is spare, none is
-pub none_found : (F : List (List Literal)) (J : List Entry) (kept : List ℕ) (c : List Literal) → ((m : ℕ) → m < (book F J).next → is_spare (book F J) kept c m ≡ false) → (n : ℕ) → is_spare (book F J) kept c n ≡ false
-none_found F J kept c h n = by (is_spare (book F J) kept c n) refl
-  where
-    by : (b : Bool) → is_spare (book F J) kept c n ≡ b → is_spare (book F J) kept c n ≡ false
-    by true e = h n (spare_below F J kept c n e)
-    by false e = e

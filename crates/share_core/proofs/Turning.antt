@@ -5,7 +5,7 @@ use Rattle.sat_words.specs.Clause.{has}
 use Rattle.rup_model.specs.declared.journal.TheConstants.{LEARNED_PER_REDUCTION}
 use Rattle.rup_model.specs.declared.journal.Entry.{Entry}
 use Rattle.rup_model.specs.Basics.{put}
-use Rattle.rup_model.specs.Journal.{ended, is_told, recent}
+use Rattle.rup_model.specs.Journal.{book, ended, recent}
 use Rattle.rup_model.proofs.Sums.{at_put}
 use Rattle.rup_model.proofs.Sequences.{EachState}
 use Rattle.sat_words.specs.declared.shared.TheConstants.{MAX_ENTRIES}
@@ -26,6 +26,7 @@ use Rattle.share_core.proofs.Others.{event_else, event_grant, Others}
 record Quiet (r : ℕ) (c d : State) : Type 0 where
   journal : d.journal ≡ c.journal
   units : d.units ≡ c.units
+  numbers : d.numbers ≡ c.numbers
   turn : d.turn ≡ Some r
   free : (a : ℕ) → c.cell a ≡ None → d.cell a ≡ None
 
@@ -39,33 +40,33 @@ counted_free c a n b is = at_put c.cell a (with_count n (c.cell a)) (λ (q : Opt
     (λ ne. is)
 
 quiet : (c : State) (r : ℕ) (e : Event) → c.turn ≡ Some r → ring_of e ≢ r → IsEnabled c e → Quiet r c (after c e)
-quiet c r (Grant q) t ne h = record { journal = refl; units = refl; turn = t; free = λ a is. is }
+quiet c r (Grant q) t ne h = record { journal = refl; units = refl; numbers = refl; turn = t; free = λ a is. is }
 quiet c r (TakeTurn q) t ne h = absurd (none_some r (sym h.1 ∙ t))
 quiet c r (GiveTurn q) t ne h = absurd (ne (not_two c.turn r q t h.1))
-quiet c r (AddClause q kind lits a) t ne h = absurd (ne (not_two c.turn r q t h.1.turn))
-quiet c r (AddUnit q kind l) t ne h = absurd (ne (not_two c.turn r q t h.1.turn))
-quiet c r (AddEmpty q) t ne h = absurd (ne (not_two c.turn r q t h.1.turn))
+quiet c r (AddClause q kind lits hints a) t ne h = absurd (ne (not_two c.turn r q t h.1.turn))
+quiet c r (AddUnit q kind l hints) t ne h = absurd (ne (not_two c.turn r q t h.1.turn))
+quiet c r (AddEmpty q hints) t ne h = absurd (ne (not_two c.turn r q t h.1.turn))
 quiet c r (Reduce q) t ne h = absurd (ne (not_two c.turn r q t h.1.turn))
-quiet c r (OpenCell q a) t ne h = record { journal = refl; units = refl; turn = t; free = counted_free c a _ }
-quiet c r (Read q a) t ne h = record { journal = refl; units = refl; turn = t; free = λ b is. is }
-quiet c r (Share q a) t ne h = record { journal = refl; units = refl; turn = t; free = counted_free c a _ }
-quiet c r (DropCount q a) t ne h = record { journal = refl; units = refl; turn = t; free = counted_free c a _ }
+quiet c r (OpenCell q a) t ne h = record { journal = refl; units = refl; numbers = refl; turn = t; free = counted_free c a _ }
+quiet c r (Read q a) t ne h = record { journal = refl; units = refl; numbers = refl; turn = t; free = λ b is. is }
+quiet c r (Share q a) t ne h = record { journal = refl; units = refl; numbers = refl; turn = t; free = counted_free c a _ }
+quiet c r (DropCount q a) t ne h = record { journal = refl; units = refl; numbers = refl; turn = t; free = counted_free c a _ }
 quiet c r (Bury q a) t ne h = absurd (ne (not_two c.turn r q t h.1.turn))
-quiet c r (Put q to k l a) t ne h = record { journal = refl; units = refl; turn = t; free = λ b is. is }
-quiet c r (Get q from k l) t ne h = record { journal = refl; units = refl; turn = t; free = λ b is. is }
-quiet c r (Publish q l) t ne h = absurd (ne (not_two c.turn r q t h.1))
-quiet c r (See q) t ne h = record { journal = refl; units = refl; turn = t; free = λ b is. is }
-quiet c r (Stop q kind) t ne h = record { journal = refl; units = refl; turn = t; free = λ b is. is }
-quiet c r (Draw q) t ne h = record { journal = refl; units = refl; turn = t; free = λ b is. is }
+quiet c r (Put q to k l a) t ne h = record { journal = refl; units = refl; numbers = refl; turn = t; free = λ b is. is }
+quiet c r (Get q from k l) t ne h = record { journal = refl; units = refl; numbers = refl; turn = t; free = λ b is. is }
+quiet c r (Publish q l n) t ne h = absurd (ne (not_two c.turn r q t h.1))
+quiet c r (See q) t ne h = record { journal = refl; units = refl; numbers = refl; turn = t; free = λ b is. is }
+quiet c r (Stop q kind) t ne h = record { journal = refl; units = refl; numbers = refl; turn = t; free = λ b is. is }
+quiet c r (Draw q) t ne h = record { journal = refl; units = refl; numbers = refl; turn = t; free = λ b is. is }
 
 -- over lists
 pub run_quiet : (r : ℕ) (es : List Event) (c : State) → c.turn ≡ Some r → Others r es → EachState after IsEnabled c es
-    → ((fold after c es).journal ≡ c.journal) × ((fold after c es).units ≡ c.units) × ((fold after c es).turn ≡ Some r)
-run_quiet r [] c t others h = (refl, refl, t)
+    → ((fold after c es).journal ≡ c.journal) × ((fold after c es).units ≡ c.units) × ((fold after c es).numbers ≡ c.numbers) × ((fold after c es).turn ≡ Some r)
+run_quiet r [] c t others h = (refl, refl, refl, t)
 run_quiet r (e ∷ es) c t others h =
     let q = quiet c r e t (others e (inl refl)) h.0 in
     let k = run_quiet r es (after c e) q.turn (λ x i. others x (inr i)) h.1 in
-    (k.0 ∙ q.journal, k.1 ∙ q.units, k.2)
+    (k.0 ∙ q.journal, k.1 ∙ q.units, k.2 ∙ q.numbers, k.3)
 
 -- Guards rest on what stays
 
@@ -94,8 +95,8 @@ module _ (c d : State) (opening : d.opening ≡ c.opening) (journal : d.journal 
   still_held : (a : ℕ) → 0 < times_at a (c.part q).held → 0 < times_at a (d.part q).held
   still_held a h = of_part (λ (p : Part). 0 < times_at a p.held) h
 
-  still_follows : (lits : List Literal) → follows (c.part q) lits ≡ true → follows (d.part q) lits ≡ true
-  still_follows lits h = of_part (λ (p : Part). follows p lits ≡ true) h
+  still_follows : (lits : List Literal) (hints : List ℕ) → follows c.opening.hinted (c.part q) lits hints ≡ true → follows d.opening.hinted (d.part q) lits hints ≡ true
+  still_follows lits hints h = of_three (λ (o : CoreOpening) (K : List Entry) (p : Part). follows o.hinted p lits hints ≡ true) h
 
   still_units : (P : List Literal → List Literal → Type 0) → P (c.part q).seen c.units → P (d.part q).seen d.units
   still_units P h = of_part (λ (p : Part). P p.seen d.units) (subst (P (c.part q).seen) (sym units) h)
@@ -105,22 +106,22 @@ stays : (c d : State) (e : Event) → d.opening ≡ c.opening → d.journal ≡ 
 stays c d (Grant r) o J u t p g f h = (still_ring c d o J u t r p r h.0, g ∙ h.1)
 stays c d (TakeTurn r) o J u t p g f h = (still_ring c d o J u t r p r h.0, t ∙ h.1)
 stays c d (GiveTurn r) o J u t p g f h = (still_ring c d o J u t r p r h.0, t ∙ h.1)
-stays c d (AddClause r kind lits a) o J u t p g f h = (
+stays c d (AddClause r kind lits hints a) o J u t p g f h = (
   still_ring c d o J u t r p r h.0,
   still_writes c d o J u t r p h.1,
   of_three c d o J u t r p (λ (w : CoreOpening) (K : List Entry) (x : Part). MayAddClause w K x r kind lits) h.2,
   h.3,
   f a h.4,
   h.5,
-  still_follows c d o J u t r p lits h.6,
+  still_follows c d o J u t r p lits hints h.6,
 )
-stays c d (AddUnit r kind l) o J u t p g f h = (
+stays c d (AddUnit r kind l hints) o J u t p g f h = (
   still_ring c d o J u t r p r h.0,
   still_writes c d o J u t r p h.1,
   of_three c d o J u t r p (λ (w : CoreOpening) (K : List Entry) (x : Part). MayAddUnit w K x r kind (l ∷ [])) h.2,
-  still_follows c d o J u t r p (l ∷ []) h.3,
+  still_follows c d o J u t r p (l ∷ []) hints h.3,
 )
-stays c d (AddEmpty r) o J u t p g f h = (still_ring c d o J u t r p r h.0, still_writes c d o J u t r p h.1, still_follows c d o J u t r p [] h.2)
+stays c d (AddEmpty r hints) o J u t p g f h = (still_ring c d o J u t r p r h.0, still_writes c d o J u t r p h.1, still_follows c d o J u t r p [] hints h.2)
 stays c d (Reduce r) o J u t p g f h = (still_ring c d o J u t r p r h.0, still_writes c d o J u t r p h.1, of_three c d o J u t r p (λ (w : CoreOpening) (K : List Entry) (x : Part). LEARNED_PER_REDUCTION ≤ length (recent r (later w K))) h.2)
 stays c d (OpenCell r a) o J u t p g f h = (still_ring c d o J u t r p r h.0, of_part c d o J u t r p (λ (x : Part). 0 < times_at a x.making) h.1)
 stays c d (Read r a) o J u t p g f h = (still_ring c d o J u t r p r h.0, still_held c d o J u t r p a h.1)
@@ -129,10 +130,10 @@ stays c d (DropCount r a) o J u t p g f h = (still_ring c d o J u t r p r h.0, s
 stays c d (Bury r a) o J u t p g f h = (still_ring c d o J u t r p r h.0, still_writes c d o J u t r p h.1, of_part c d o J u t r p (λ (x : Part). 0 < times_at a x.waiting) h.2)
 stays c d (Put r to k l a) o J u t p g f h = (still_ring c d o J u t r p r h.0, still_ring c d o J u t r p to h.1, h.2, h.3, subst (λ (w : CoreOpening). l < w.depth) (sym o) h.4, still_held c d o J u t r p a h.5)
 stays c d (Get r from k l) o J u t p g f h = (still_ring c d o J u t r p r h.0, still_ring c d o J u t r p from h.1, h.2, h.3, subst (λ (w : CoreOpening). l < w.depth) (sym o) h.4)
-stays c d (Publish r l) o J u t p g f h = (
+stays c d (Publish r l n) o J u t p g f h = (
   still_ring c d o J u t r p r h.0,
   t ∙ h.1,
-  (λ j. is_told (o j).formula (J j) l) ∙ h.2,
+  (λ j. (book (o j).formula (J j)).clause n) ∙ h.2,
   still_units c d o J u t r p (λ (s us : List Literal). length s ≡ length us) h.3,
   (λ j. has (u j) l) ∙ h.4,
 )

@@ -31,7 +31,7 @@ use Rattle.share_core.proofs.Slots.{puts_same, slots_kept}
 use Rattle.share_core.proofs.Own.{owned_more}
 use Rattle.share_core.proofs.Tickets.{tickets_added, tickets_noted}
 use Rattle.share_core.proofs.Whole.{whole_more, whole_begun, few_added}
-use Rattle.share_core.proofs.Frames.{follows_alive, journal_more, fresh_more, stop_more, cells_same, part_moves, part_only, part_slots, copies_put, units_written}
+use Rattle.share_core.proofs.Frames.{follows_alive, adds_hinted, units_stay, journal_more, fresh_more, stop_more, cells_same, part_moves, part_only, part_slots, copies_put, has_seen, units_written}
 
 -- What may be added is fresh if it is learned
 
@@ -85,44 +85,44 @@ writes c r t e s lt own log low few fresh spaced tickets =
       log = log;
       entries = owned_more c.opening c r e p s.entries own refl;
       freshness = fresh_more c.opening c.journal e s.log s.freshness fresh spaced;
-      units = units_written c r p e s (s.units.seen r);
+      units = units_written c r p e s (units_stay c e s low) (has_seen c r s);
       turns = s.turns;
       stops = stop_more c.opening.formula c.journal c.opening.rings c.stop e s.stops;
       tickets = tickets;
     }
 
 -- an addition that follows from what the ring knows keeps the journal
-added : (c : State) (r : ℕ) (kind : Kind) (lits : List Literal) → Sound c → r < c.opening.rings → Writes c r → follows (c.part r) lits ≡ true → JournalSound c.opening (c.journal ++ addition_of c r kind lits ∷ [])
-added c r kind lits s lt w f =
-    let x : Addition = record { ring = r; number = (book c.opening.formula c.journal).next; lits = lits; kind = kind; hints = [] } in
-    journal_more c.opening c.journal (Add x) s.log (log_adds c.opening.formula c.journal s.log.log x refl (follows_alive c r lits s lt f) (not_added c.opening.formula c.journal w.going)) w.room lt
+added : (c : State) (r : ℕ) (kind : Kind) (lits : List Literal) (hints : List ℕ) → Sound c → r < c.opening.rings → Writes c r → follows c.opening.hinted (c.part r) lits hints ≡ true → JournalSound c.opening (c.journal ++ addition_of c r kind lits hints ∷ [])
+added c r kind lits hints s lt w f =
+    let x : Addition = record { ring = r; number = (book c.opening.formula c.journal).next; lits = lits; kind = kind; hints = hints } in
+    journal_more c.opening c.journal (Add x) s.log (log_adds c.opening.formula c.journal s.log.log x refl (follows_alive c r lits hints s lt f) (not_added c.opening.formula c.journal w.going)) w.room lt (adds_hinted c r lits hints s lt f)
 
-pub adds_unit : (c : State) (r : ℕ) (kind : Kind) (l : Literal) → Sound c → IsEnabled c (AddUnit r kind l) → Sound (after c (AddUnit r kind l))
-adds_unit c r kind l s e =
-    let x : Addition = record { ring = r; number = (book c.opening.formula c.journal).next; lits = l ∷ []; kind = kind; hints = [] } in
-    writes c r (ticket_after kind (c.part r).ticket) (Add x) s e.0 refl (added c r kind (l ∷ []) s e.0 e.1 e.3) (add_low (book c.opening.formula c.journal) x) (few_added c.opening c.journal x (λ two. true≢false (sym two ∙ ap two_or_more (own_spelling c x s e.0)))) (λ is. may_new c r (l ∷ []) (may_fresh_unit c r kind (l ∷ []) e.2 is)) tt
+pub adds_unit : (c : State) (r : ℕ) (kind : Kind) (l : Literal) (hints : List ℕ) → Sound c → IsEnabled c (AddUnit r kind l hints) → Sound (after c (AddUnit r kind l hints))
+adds_unit c r kind l hints s e =
+    let x : Addition = record { ring = r; number = (book c.opening.formula c.journal).next; lits = l ∷ []; kind = kind; hints = hints } in
+    writes c r (ticket_after kind (c.part r).ticket) (Add x) s e.0 refl (added c r kind (l ∷ []) hints s e.0 e.1 e.3) (add_low (book c.opening.formula c.journal) x) (few_added c.opening c.journal x (λ two. true≢false (sym two ∙ ap two_or_more (own_spelling c x s e.0)))) (λ is. may_new c r (l ∷ []) (may_fresh_unit c r kind (l ∷ []) e.2 is)) tt
     (tickets_added c.opening c.drawn c.part r (wrote_part (length c.journal) (Add x) (after_learn kind (c.part r))) s.tickets (length c.journal) x refl (λ is. may_spend c r (l ∷ []) (may_fresh_unit c r kind (l ∷ []) e.2 is)) refl refl refl)
 
-pub adds_empty : (c : State) (r : ℕ) → Sound c → IsEnabled c (AddEmpty r) → Sound (after c (AddEmpty r))
-adds_empty c r s e =
-    let x : Addition = record { ring = r; number = (book c.opening.formula c.journal).next; lits = []; kind = Derive; hints = [] } in
-    writes c r (c.part r).ticket (Add x) s e.0 refl (added c r Derive [] s e.0 e.1 e.2) (add_low (book c.opening.formula c.journal) x) (few_added c.opening c.journal x (λ two. true≢false (sym two ∙ ap two_or_more (own_spelling c x s e.0)))) (λ h. absurd (true≢false (sym h))) tt
+pub adds_empty : (c : State) (r : ℕ) (hints : List ℕ) → Sound c → IsEnabled c (AddEmpty r hints) → Sound (after c (AddEmpty r hints))
+adds_empty c r hints s e =
+    let x : Addition = record { ring = r; number = (book c.opening.formula c.journal).next; lits = []; kind = Derive; hints = hints } in
+    writes c r (c.part r).ticket (Add x) s e.0 refl (added c r Derive [] hints s e.0 e.1 e.2) (add_low (book c.opening.formula c.journal) x) (few_added c.opening c.journal x (λ two. true≢false (sym two ∙ ap two_or_more (own_spelling c x s e.0)))) (λ h. absurd (true≢false (sym h))) tt
     (tickets_added c.opening c.drawn c.part r (wrote_part (length c.journal) (Add x) (after_learn Derive (c.part r))) s.tickets (length c.journal) x refl (λ is. absurd (true≢false (sym is))) refl refl refl)
 
 pub reduces : (c : State) (r : ℕ) → Sound c → IsEnabled c (Reduce r) → Sound (after c (Reduce r))
-reduces c r s e = writes c r (c.part r).ticket (ReduceEntry r) s e.0 refl (journal_more c.opening c.journal (ReduceEntry r) s.log (log_reduces c.opening.formula c.journal s.log.log r (not_added c.opening.formula c.journal e.1.going)) e.1.room e.0) (λ n lt. refl) (λ n k two is. is) tt e.2
+reduces c r s e = writes c r (c.part r).ticket (ReduceEntry r) s e.0 refl (journal_more c.opening c.journal (ReduceEntry r) s.log (log_reduces c.opening.formula c.journal s.log.log r (not_added c.opening.formula c.journal e.1.going)) e.1.room e.0 (λ _. tt)) (λ n lt. refl) (λ n k two is. is) tt e.2
     (tickets_noted c.opening c.drawn c.part r (wrote_part (length c.journal) (ReduceEntry r) (c.part r)) s.tickets (length c.journal) (ReduceEntry r) refl refl refl refl)
 
 -- A clause with its cell
 
-pub adds_clause : (c : State) (r : ℕ) (kind : Kind) (lits : List Literal) (a : ℕ) → Sound c → IsEnabled c (AddClause r kind lits a) → Sound (after c (AddClause r kind lits a))
-adds_clause c r kind lits a s e =
+pub adds_clause : (c : State) (r : ℕ) (kind : Kind) (lits : List Literal) (hints : List ℕ) (a : ℕ) → Sound c → IsEnabled c (AddClause r kind lits hints a) → Sound (after c (AddClause r kind lits hints a))
+adds_clause c r kind lits hints a s e =
     let J = c.journal in
     let F = c.opening.formula in
     let b : Book = book F J in
-    let x : Addition = record { ring = r; number = b.next; lits = lits; kind = kind; hints = [] } in
+    let x : Addition = record { ring = r; number = b.next; lits = lits; kind = kind; hints = hints } in
     let new : Cell = record { lits = lits; number = b.next; count = 0; maker = Some r } in
-    let d : State = after c (AddClause r kind lits a) in
+    let d : State = after c (AddClause r kind lits hints a) in
     let h : ClauseAt = record { address = a; number = b.next; lits = lits } in
     let p : Part = made_part h (length J) (Add x) (after_learn kind (c.part r)) in
     let lt = e.0 in
@@ -176,10 +176,10 @@ adds_clause c r kind lits a s e =
       });
       whole = whole_begun c.opening J c.cell a x new s.whole none refl;
       slots = slots_kept c.opening c d s.slots refl (puts_same c r p refl);
-      log = added c r kind lits s lt w e.6;
+      log = added c r kind lits hints s lt w e.6;
       entries = owned_more c.opening c r (Add x) p s.entries refl refl;
       freshness = fresh_more c.opening J (Add x) s.log s.freshness (λ is. may_new c r lits (may_fresh c r kind lits e.2 is)) tt;
-      units = units_written c r p (Add x) s (s.units.seen r);
+      units = units_written c r p (Add x) s (units_stay c (Add x) s (add_low b x)) (has_seen c r s);
       turns = s.turns;
       stops = stop_more F J c.opening.rings c.stop (Add x) s.stops;
       tickets = tickets_added c.opening c.drawn c.part r p s.tickets (length J) x refl (λ is. may_spend c r lits (may_fresh c r kind lits e.2 is)) refl refl refl;

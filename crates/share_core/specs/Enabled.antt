@@ -3,7 +3,7 @@ use Rattle.std.specs.Prelude.{◌≡◌, ◌≢◌, ℕ, ◌<◌, ◌≤◌, tru
 use Rattle.sat_words.specs.Clause.{has}
 use Rattle.rup_model.specs.declared.journal.TheConstants.{LEARNED_PER_REDUCTION}
 use Rattle.rup_model.specs.Basics.{EachAfter}
-use Rattle.rup_model.specs.Journal.{ended, is_told, recent}
+use Rattle.rup_model.specs.Journal.{book, ended, recent}
 use Rattle.rup_model.specs.Opening.{IsLong}
 use Rattle.sat_words.specs.declared.shared.TheConstants.{MAX_ENTRIES}
 use Rattle.share_core.specs.declared.event.TheConstants.{MAX_SHARES}
@@ -40,10 +40,12 @@ IsEnabled c (TakeTurn r) = IsRing c r × (c.turn ≡ None)
 -- the turn is the ring's
 IsEnabled c (GiveTurn r) = IsRing c r × (c.turn ≡ Some r)
 -- two literals or more without repeats or opposites, which follow from what the ring knows; a free address
-IsEnabled c (AddClause r kind lits a) =
-    IsRing c r × Writes c r × MayAddClause c.opening c.journal (c.part r) r kind lits × IsLong lits × (c.cell a ≡ None) × (a ≢ 0) × (follows (c.part r) lits ≡ true)
-IsEnabled c (AddUnit r kind lit) = IsRing c r × Writes c r × MayAddUnit c.opening c.journal (c.part r) r kind (lit ∷ []) × (follows (c.part r) (lit ∷ []) ≡ true)
-IsEnabled c (AddEmpty r) = IsRing c r × Writes c r × (follows (c.part r) [] ≡ true)
+IsEnabled c (AddClause r kind lits hints a) =
+    IsRing c r × Writes c r × MayAddClause c.opening c.journal (c.part r) r kind lits × IsLong lits × (c.cell a ≡ None) × (a ≢ 0)
+    × (follows c.opening.hinted (c.part r) lits hints ≡ true)
+IsEnabled c (AddUnit r kind lit hints) =
+    IsRing c r × Writes c r × MayAddUnit c.opening c.journal (c.part r) r kind (lit ∷ []) × (follows c.opening.hinted (c.part r) (lit ∷ []) hints ≡ true)
+IsEnabled c (AddEmpty r hints) = IsRing c r × Writes c r × (follows c.opening.hinted (c.part r) [] hints ≡ true)
 -- the ring has learned enough since it last reduced
 IsEnabled c (Reduce r) = IsRing c r × Writes c r × (LEARNED_PER_REDUCTION ≤ length (recent r (later c.opening c.journal)))
 -- the ring builds the cell
@@ -56,9 +58,9 @@ IsEnabled c (Bury r a) = IsRing c r × Writes c r × (0 < times_at a (c.part r).
 -- for another ring, of one of the four classes, at a place that there is
 IsEnabled c (Put r to k i a) = IsRing c r × IsRing c to × (to ≢ r) × (k < 4) × (i < c.opening.depth) × Holds c r a
 IsEnabled c (Get r from k i) = IsRing c r × IsRing c from × (from ≢ r) × (k < 4) × (i < c.opening.depth)
--- the turn is the ring's; the unit is in the formula or was added; the ring has seen all units, and this is none
-IsEnabled c (Publish r lit) =
-    IsRing c r × (c.turn ≡ Some r) × (is_told c.opening.formula c.journal lit ≡ true) × (length (c.part r).seen ≡ length c.units) × (has c.units lit ≡ false)
+-- the turn is the ring's; the number is that of a clause that is this unit; the ring has seen all units, and this is none
+IsEnabled c (Publish r lit n) =
+    IsRing c r × (c.turn ≡ Some r) × ((book c.opening.formula c.journal).clause n ≡ Some (lit ∷ [])) × (length (c.part r).seen ≡ length c.units) × (has c.units lit ≡ false)
 -- the ring has not seen all units
 IsEnabled c (See r) = IsRing c r × (length (c.part r).seen < length c.units)
 -- a kind from 1 to 5; a refutation only if the log is ended

@@ -25,8 +25,8 @@ granted_part o p = record p { held = p.held ++ o.starts }
 -- Writing
 
 -- the addition with the next number
-abbrev pub addition_of : State → ℕ → Kind → List Literal → Entry
-addition_of c r kind lits = Add (record { ring = r; number = (book c.opening.formula c.journal).next; lits = lits; kind = kind; hints = [] })
+abbrev pub addition_of : State → ℕ → Kind → List Literal → List ℕ → Entry
+addition_of c r kind lits hints = Add (record { ring = r; number = (book c.opening.formula c.journal).next; lits = lits; kind = kind; hints = hints })
 
 -- the deletion of the clause in a cell
 abbrev pub deletion_of : State → ℕ → ℕ → Entry
@@ -53,13 +53,13 @@ abbrev pub written : State → ℕ → Part → Entry → State
 written c r p e = record c { journal = noted c e; part = put c.part r (wrote_part (length c.journal) e p) }
 
 -- a clause is added, and its cell is begun
-abbrev pub begun : State → ℕ → Kind → List Literal → ℕ → State
-begun c r kind lits a =
+abbrev pub begun : State → ℕ → Kind → List Literal → List ℕ → ℕ → State
+begun c r kind lits hints a =
     let n = (book c.opening.formula c.journal).next in
     record c {
-      journal = noted c (addition_of c r kind lits);
+      journal = noted c (addition_of c r kind lits hints);
       cell = put c.cell a (Some (record { lits = lits; number = n; count = 0; maker = Some r }));
-      part = put c.part r (made_part (record { address = a; number = n; lits = lits }) (length c.journal) (addition_of c r kind lits) (after_learn kind (c.part r)));
+      part = put c.part r (made_part (record { address = a; number = n; lits = lits }) (length c.journal) (addition_of c r kind lits hints) (after_learn kind (c.part r)));
     }
 
 -- a clause is deleted, and its cell is gone
@@ -113,9 +113,13 @@ exchanged c r s a p = record c { slot = put c.slot s a; part = put c.part r p }
 abbrev pub unit_at : List Literal → ℕ → Literal
 unit_at us n = slice_index_or us n (record { var = 0; neg = false })
 
+-- its number
+abbrev pub listed_number : List ℕ → ℕ → ℕ
+listed_number ns i = slice_index_or ns i 0
+
 -- the ring has seen one more
-abbrev pub seen_part : Literal → Part → Part
-seen_part l p = record p { seen = p.seen ++ l ∷ [] }
+abbrev pub seen_part : Literal → ℕ → Part → Part
+seen_part l n p = record p { seen = p.seen ++ l ∷ []; numbers = p.numbers ++ n ∷ [] }
 
 -- The stop
 
@@ -137,9 +141,9 @@ abbrev pub after : State → Event → State
 after c (Grant r) = record c { granted = put c.granted r true; part = put c.part r (granted_part c.opening (c.part r)) }
 after c (TakeTurn r) = record c { turn = Some r }
 after c (GiveTurn r) = record c { turn = None }
-after c (AddClause r kind lits a) = begun c r kind lits a
-after c (AddUnit r kind lit) = written c r (after_learn kind (c.part r)) (addition_of c r kind (lit ∷ []))
-after c (AddEmpty r) = written c r (after_learn Derive (c.part r)) (addition_of c r Derive [])
+after c (AddClause r kind lits hints a) = begun c r kind lits hints a
+after c (AddUnit r kind lit hints) = written c r (after_learn kind (c.part r)) (addition_of c r kind (lit ∷ []) hints)
+after c (AddEmpty r hints) = written c r (after_learn Derive (c.part r)) (addition_of c r Derive [] hints)
 after c (Reduce r) = written c r (c.part r) (ReduceEntry r)
 after c (OpenCell r a) = recounted c r a 1 (opened_part (clause_at c a) (c.part r))
 after c (Read r a) = c
@@ -148,7 +152,7 @@ after c (DropCount r a) = recounted c r a (count_at (c.cell a) - 1) (dropped_par
 after c (Bury r a) = buried c r a
 after c (Put r to k i a) = let s = slot_of c.opening r to k i in exchanged c r s a (put_part (record { to = to; class = k; place = i; address = a }) (clause_at c (c.slot s)) (c.part r))
 after c (Get r from k i) = let s = slot_of c.opening from r k i in exchanged c r s 0 (got_part (clause_at c (c.slot s)) (c.part r))
-after c (Publish r lit) = record c { units = c.units ++ lit ∷ []; part = put c.part r (seen_part lit (c.part r)) }
-after c (See r) = record c { part = put c.part r (seen_part (unit_at c.units (length (c.part r).seen)) (c.part r)) }
+after c (Publish r lit n) = record c { units = c.units ++ lit ∷ []; numbers = c.numbers ++ n ∷ []; part = put c.part r (seen_part lit n (c.part r)) }
+after c (See r) = let i = length (c.part r).seen in record c { part = put c.part r (seen_part (unit_at c.units i) (listed_number c.numbers i) (c.part r)) }
 after c (Stop r kind) = record c { stop = first_stop c.stop (record { kind = kind; ring = r }) }
 after c (Draw r) = record c { part = put c.part r (drew_part c.opening.limit c.drawn (c.part r)); drawn = c.drawn + 1 }

@@ -1,12 +1,12 @@
 -- When an event is enabled, as a test.
-use Rattle.std.specs.Prelude.{ℕ, Bool, true, false, not, ◌&&◌, ◌||◌, ◌==◌, nat_lt, nat_le, List, [], ◌∷◌, length}
+use Rattle.std.specs.Prelude.{ℕ, Bool, true, false, not, ◌&&◌, ◌||◌, ◌==◌, nat_lt, nat_le, List, [], ◌∷◌, length, Option, Some, None}
 use Rattle.std.specs.Option.{is_none}
-use Rattle.sat_words.specs.Literal.{Literal}
+use Rattle.sat_words.specs.Literal.{Literal, same}
 use Rattle.sat_words.specs.Clause.{has, distinct_lits, has_opposites}
 use Rattle.rup_model.specs.declared.journal.TheConstants.{LEARNED_PER_REDUCTION}
 use Rattle.rup_model.specs.declared.journal.Kind.{Kind}
 use Rattle.rup_model.specs.declared.journal.Kind.TheVariants.{Ruler, Learn, Derive, UnitLine}
-use Rattle.rup_model.specs.Journal.{ended, is_told, recent, is_ring}
+use Rattle.rup_model.specs.Journal.{book, ended, recent, is_ring}
 use Rattle.sat_words.specs.declared.shared.TheConstants.{MAX_ENTRIES}
 use Rattle.share_core.specs.declared.event.TheConstants.{MAX_SHARES}
 use Rattle.share_core.specs.declared.event.Event.{Event}
@@ -45,14 +45,22 @@ may_tell c r UnitLine lits = true
 abbrev pub exchanges : State → ℕ → ℕ → ℕ → ℕ → Bool
 exchanges c r other k i = nat_lt r c.opening.rings && (nat_lt other c.opening.rings && (not (other == r) && (nat_lt k 4 && nat_lt i c.opening.depth)))
 
+-- it is a clause of this literal alone
+abbrev pub is_unit : Literal → Option (List Literal) → Bool
+is_unit l None = false
+is_unit l (Some []) = false
+is_unit l (Some (k ∷ [])) = same l k
+is_unit l (Some (k ∷ m ∷ c)) = false
+
 -- the guard of an event
 abbrev pub is_enabled : State → Event → Bool
 is_enabled c (Grant r) = nat_lt r c.opening.rings && not (c.granted r)
 is_enabled c (TakeTurn r) = nat_lt r c.opening.rings && is_none c.turn
 is_enabled c (GiveTurn r) = nat_lt r c.opening.rings && is_ring r c.turn
-is_enabled c (AddClause r kind lits a) = writes c r && (may_add c r kind lits && (is_long lits && (is_none (c.cell a) && (not (a == 0) && follows (c.part r) lits))))
-is_enabled c (AddUnit r kind lit) = writes c r && (may_tell c r kind (lit ∷ []) && follows (c.part r) (lit ∷ []))
-is_enabled c (AddEmpty r) = writes c r && follows (c.part r) []
+is_enabled c (AddClause r kind lits hints a) =
+    writes c r && (may_add c r kind lits && (is_long lits && (is_none (c.cell a) && (not (a == 0) && follows c.opening.hinted (c.part r) lits hints))))
+is_enabled c (AddUnit r kind lit hints) = writes c r && (may_tell c r kind (lit ∷ []) && follows c.opening.hinted (c.part r) (lit ∷ []) hints)
+is_enabled c (AddEmpty r hints) = writes c r && follows c.opening.hinted (c.part r) [] hints
 is_enabled c (Reduce r) = writes c r && nat_le LEARNED_PER_REDUCTION (length (recent r (later c.opening c.journal)))
 is_enabled c (OpenCell r a) = nat_lt r c.opening.rings && has_at a (c.part r).making
 is_enabled c (Read r a) = holds c r a
@@ -61,8 +69,8 @@ is_enabled c (DropCount r a) = holds c r a
 is_enabled c (Bury r a) = writes c r && has_at a (c.part r).waiting
 is_enabled c (Put r to k i a) = exchanges c r to k i && has_at a (c.part r).held
 is_enabled c (Get r from k i) = exchanges c r from k i
-is_enabled c (Publish r lit) =
-    nat_lt r c.opening.rings && (is_ring r c.turn && (is_told c.opening.formula c.journal lit && (length (c.part r).seen == length c.units && not (has c.units lit))))
+is_enabled c (Publish r lit n) =
+    nat_lt r c.opening.rings && (is_ring r c.turn && ((length (c.part r).seen == length c.units) && (not (has c.units lit) && is_unit lit ((book c.opening.formula c.journal).clause n))))
 is_enabled c (See r) = nat_lt r c.opening.rings && nat_lt (length (c.part r).seen) (length c.units)
 is_enabled c (Stop r kind) = nat_lt r c.opening.rings && (nat_le 1 kind && (nat_le kind 5 && (not (kind == 2) || ended c.opening.formula c.journal)))
 is_enabled c (Draw r) = nat_lt r c.opening.rings && (not (c.part r).ticket && nat_le (c.part r).found c.opening.limit)

@@ -1,30 +1,31 @@
 -- What a ring knows, and what it may add to the log for it.
-use Rattle.std.specs.Prelude.{◌≡◌, ℕ, ◌&&◌, Bool, true, false, ⊤, List, [], ◌∷◌, ◌++◌, map}
-use Rattle.std.specs.List.{list_any}
+use Rattle.std.specs.Prelude.{◌≡◌, ℕ, ◌&&◌, ◌==◌, Bool, true, false, ⊤, List, [], ◌∷◌, ◌++◌, map, length}
+use Rattle.std.specs.List.{list_any, zip}
 use Rattle.sat_words.specs.Literal.{Literal}
 use Rattle.sat_words.specs.Clause.{includes}
 use Rattle.rup_model.specs.declared.journal.Kind.{Kind}
 use Rattle.rup_model.specs.declared.journal.Kind.TheVariants.{Ruler, Learn, Derive, UnitLine}
 use Rattle.rup_model.specs.declared.journal.Entry.{Entry}
 use Rattle.rup_model.specs.Rup.{rup}
+use Rattle.rup_model.specs.Hints.{numbered, hinted}
 use Rattle.rup_model.specs.Journal.{fresh}
 use Rattle.rup_model.specs.Opening.{start_clauses}
 use Rattle.share_core.specs.State.{CoreOpening, opening_of, later, Part}
 
 -- What a ring knows
 
--- the clauses of the cells that it holds, each with its number, and the units that it has seen; a unit is listed without
--- a number, and has 0
+-- the clauses of the cells that it holds, each with its number, and the units that it has seen, each with its own
 abbrev pub known : Part → List (ℕ × List Literal)
-known p = map (λ h. (h.number, h.lits)) p.held ++ map (λ l. (0, l ∷ [])) p.seen
+known p = map (λ h. (h.number, h.lits)) p.held ++ map (λ u. (u.1, u.0 ∷ [])) (zip p.seen p.numbers)
 
 -- the clauses without their numbers
 abbrev pub known_clauses : Part → List (List Literal)
-known_clauses p = map (λ k. k.1) (known p)
+known_clauses p = map (λ h. h.lits) p.held ++ map (λ l. l ∷ []) p.seen
 
--- the clause follows from what the ring knows
-abbrev pub follows : Part → List Literal → Bool
-follows p lits = rup (known_clauses p) lits
+-- the clause follows from what the ring knows: in a log with hints, as the hints show; in other logs there are none
+abbrev pub follows : Bool → Part → List Literal → List ℕ → Bool
+follows true p lits hints = hinted (numbered (known p)) lits hints
+follows false p lits hints = (length hints == 0) && rup (known_clauses p) lits
 
 -- What it may add
 

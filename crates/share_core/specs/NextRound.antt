@@ -1,5 +1,5 @@
 -- The next round of the rings: what the ruler's lines become, and what the core is then opened with.
-use Rattle.std.specs.Prelude.{◌≡◌, ℕ, ◌<◌, Bool, true, false, not, ◌&&◌, ◌||◌, ◌==◌, ⊤, List, [], ◌∷◌, ◌++◌, map, All, Option, Some, None}
+use Rattle.std.specs.Prelude.{◌≡◌, ℕ, Bool, true, false, not, ◌&&◌, ◌||◌, ◌==◌, ⊤, List, [], ◌∷◌, ◌++◌, map, All, Option, Some, None}
 use Rattle.std.specs.List.{list_any}
 use Rattle.std.specs.Option.{unwrap_or}
 use Rattle.sat_words.specs.Literal.{Literal}
@@ -12,11 +12,18 @@ use Rattle.rup_model.specs.declared.journal.Entry.{Entry}
 use Rattle.rup_model.specs.declared.journal.Entry.TheVariants.{Add, Del, Round}
 use Rattle.rup_model.specs.Journal.{Book, book, added, LogSound}
 use Rattle.rup_model.specs.Opening.{IsLong}
+use Rattle.share_core.specs.declared.round_line.RoundLine.{RoundLine}
+use Rattle.share_core.specs.declared.round_line.RoundLine.TheVariants.{Add as RoundAdd, Del as RoundDel}
 use Rattle.share_core.specs.declared.stored.ClauseAt.{ClauseAt}
 use Rattle.share_core.specs.Guards.{is_long}
-use Rattle.share_core.specs.State.{CoreOpening, IsCoreOpening, State, maker_at}
+use Rattle.share_core.specs.State.{CoreOpening, unit_lits, unit_numbers, IsCoreOpening, State, maker_at}
 
 -- What the lines become
+
+-- the line of the log
+abbrev pub line_of : RoundLine → Line
+line_of (RoundAdd c hints) = AddLine c
+line_of (RoundDel n c) = DelLine c
 
 -- a clause with these literals
 abbrev pub has_lits : List Literal → Option (List Literal) → Bool
@@ -27,32 +34,31 @@ has_lits c (Some d) = same_set c d
 abbrev pub is_spare : Book → List ℕ → List Literal → ℕ → Bool
 is_spare b kept c n = not (list_any (λ m. m == n) kept) && has_lits c (b.clause n)
 
--- the least number that passes the test
-abbrev pub IsLeast : (ℕ → Bool) → ℕ → Type 0
-IsLeast p n = (p n ≡ true) × ((m : ℕ) → m < n → p m ≡ false)
+-- the ruler's entry of a line: an addition has the next number, and the line's hints; a deletion names the line's number
+abbrev pub entry_of : Book → RoundLine → Entry
+entry_of b (RoundAdd c hints) = Add (record { ring = RULER_RING; number = b.next; lits = c; kind = Ruler; hints = hints })
+entry_of b (RoundDel n c) = Del RULER_RING n
 
--- the least number that passes the test, if one does
-abbrev pub IsFound : (ℕ → Bool) → Option ℕ → Type 0
-IsFound p None = (n : ℕ) → p n ≡ false
-IsFound p (Some n) = IsLeast p n
+-- a deletion's number is none of those kept, and its clause has the line's literals
+abbrev pub DeletesSpare : Book → List ℕ → RoundLine → Type 0
+DeletesSpare b kept (RoundAdd c hints) = ⊤
+DeletesSpare b kept (RoundDel n c) = is_spare b kept c n ≡ true
 
--- the ruler's entry of a line: an addition has the next number; a deletion names the least number whose clause has these
--- literals and that is none of those kept
-abbrev pub IsEntryOf : Book → List ℕ → Line → Entry → Type 0
-IsEntryOf b kept (AddLine c) e = e ≡ Add (record { ring = RULER_RING; number = b.next; lits = c; kind = Ruler; hints = [] })
-IsEntryOf b kept (DelLine c) e = (n : ℕ) × (e ≡ Del RULER_RING n) × IsLeast (is_spare b kept c) n
+-- it is that of the line, which deletes nothing else
+abbrev pub IsEntryOf : Book → List ℕ → RoundLine → Entry → Type 0
+IsEntryOf b kept l e = (e ≡ entry_of b l) × DeletesSpare b kept l
 
 -- each entry is that of its line after the journal and the entries before it
-abbrev pub AreEntriesOf : List (List Literal) → List Entry → List ℕ → List Line → List Entry → Type 0
+abbrev pub AreEntriesOf : List (List Literal) → List Entry → List ℕ → List RoundLine → List Entry → Type 0
 AreEntriesOf F J kept [] [] = ⊤
 AreEntriesOf F J kept [] (e ∷ E) = ⊥
 AreEntriesOf F J kept (l ∷ L) [] = ⊥
 AreEntriesOf F J kept (l ∷ L) (e ∷ E) = IsEntryOf (book F J) kept l e × AreEntriesOf F (J ++ e ∷ []) kept L E
 
 -- a deletion has its literals in the order of `Clause`
-abbrev pub IsInOrder : Line → Type 0
-IsInOrder (AddLine c) = ⊤
-IsInOrder (DelLine c) = clause_of c ≡ c
+abbrev pub IsInOrder : RoundLine → Type 0
+IsInOrder (RoundAdd c hints) = ⊤
+IsInOrder (RoundDel n c) = clause_of c ≡ c
 
 -- What the core is opened with
 
@@ -68,44 +74,47 @@ start_in b p = record { address = p.0; number = p.1; lits = unwrap_or (b.clause 
 abbrev pub round_journal : List Entry → List Entry → List (ℕ × ℕ) → List Literal → List Entry
 round_journal J E start units = (J ++ E) ++ Round (record { starts = numbers_of start; units = units }) ∷ []
 
--- after this journal, with these start clauses as it spells them, these units and this limit; the rings and slots stay as many
-abbrev pub round_opening : State → List Entry → List (ℕ × ℕ) → List Literal → ℕ → CoreOpening
+-- after this journal, with these start clauses as it spells them, these units and this limit; the rings and slots stay as many,
+-- and additions have hints as before
+abbrev pub round_opening : State → List Entry → List (ℕ × ℕ) → List (Literal × ℕ) → ℕ → CoreOpening
 round_opening c J start units limit = record {
   formula = c.opening.formula;
   rings = c.opening.rings;
   depth = c.opening.depth;
   journal = J;
   starts = map (start_in (book c.opening.formula J)) start;
-  units = units;
+  units = unit_lits units;
+  numbers = unit_numbers units;
   limit = limit;
+  hinted = c.opening.hinted;
 }
 
 -- what the core is opened with after these entries of the ruler
-abbrev pub next_opening : State → List Entry → List (ℕ × ℕ) → List Literal → ℕ → CoreOpening
-next_opening c E start units limit = round_opening c (round_journal c.journal E start units) start units limit
+abbrev pub next_opening : State → List Entry → List (ℕ × ℕ) → List (Literal × ℕ) → ℕ → CoreOpening
+next_opening c E start units limit = round_opening c (round_journal c.journal E start (unit_lits units)) start units limit
 
 -- no cell is under construction
 abbrev pub NoneBuilt : State → Type 0
 NoneBuilt c = (a : ℕ) → maker_at (c.cell a) ≡ None
 
 -- the lines become these entries of the ruler, and the core may be opened after them
-pub record IsNextRound (c : State) (lines : List Line) (start : List (ℕ × ℕ)) (units : List Literal) (limit : ℕ) (E : List Entry) : Type 0 where
+pub record IsNextRound (c : State) (lines : List RoundLine) (start : List (ℕ × ℕ)) (units : List (Literal × ℕ)) (limit : ℕ) (E : List Entry) : Type 0 where
   pub entries : AreEntriesOf c.opening.formula c.journal (numbers_of start) lines E
   pub opens : IsCoreOpening (next_opening c E start units limit)
 
 -- A round that is begun with deletions alone
 
--- the line deletes a long clause, spelled in order, and this is the least spare copy
-abbrev pub IsDeletion : Book → List ℕ → Line → ℕ → Type 0
-IsDeletion b kept (AddLine c) n = ⊥
-IsDeletion b kept (DelLine c) n = (clause_of c ≡ c) × IsLong c × IsLeast (is_spare b kept c) n
+-- the line deletes a long clause, spelled in order, and its number is that of a spare copy
+abbrev pub IsDeletion : Book → List ℕ → RoundLine → ℕ → Type 0
+IsDeletion b kept (RoundAdd c hints) m = ⊥
+IsDeletion b kept (RoundDel n c) m = (n ≡ m) × (clause_of c ≡ c) × IsLong c × (is_spare b kept c n ≡ true)
 
 -- the log is sound, and the empty clause was not added
 abbrev pub IsGoing : List (List Literal) → List Entry → Type 0
 IsGoing F J = LogSound F J × (list_any is_empty (added J) ≡ false)
 
 -- the lines are in order, and their entries lead from one journal to the other, with which the log stays sound
-pub record AreDeleted (F : List (List Literal)) (J : List Entry) (kept : List ℕ) (L : List Line) (K : List Entry) : Type 0 where
+pub record AreDeleted (F : List (List Literal)) (J : List Entry) (kept : List ℕ) (L : List RoundLine) (K : List Entry) : Type 0 where
   pub entries : List Entry
   pub grows : K ≡ J ++ entries
   pub are : AreEntriesOf F J kept L entries
@@ -122,7 +131,7 @@ stand_apart [] = true
 stand_apart (s ∷ ss) = not (list_any (λ h. (h.address == s.address) || (h.number == s.number)) ss) && stand_apart ss
 
 -- the core may begin its next round so
-pub record MayBegin (c : State) (lines : List Line) (start : List (ℕ × ℕ)) (units : List Literal) (limit : ℕ) : Type 0 where
+pub record MayBegin (c : State) (lines : List RoundLine) (start : List (ℕ × ℕ)) (units : List (Literal × ℕ)) (limit : ℕ) : Type 0 where
   pub built : NoneBuilt c
   pub ordered : All IsInOrder lines
   pub opens : (E : List Entry) × IsNextRound c lines start units limit E

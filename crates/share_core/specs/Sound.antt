@@ -6,6 +6,7 @@ use Rattle.sat_words.specs.Clause.{has, distinct_lits, two_or_more}
 use Rattle.rup_model.specs.declared.journal.Entry.{Entry}
 use Rattle.rup_model.specs.Basics.{EachAfter, below, one_if}
 use Rattle.rup_model.specs.Journal.{ring_of, Book, book, ended, LogSound, is_told, is_ring, learned, IsFresh, IsSpaced}
+use Rattle.rup_model.specs.NumberedLines.{IsHinted}
 use Rattle.rup_model.specs.Opening.{start_clauses, IsLong}
 use Rattle.sat_words.specs.declared.shared.TheConstants.{MAX_ENTRIES}
 use Rattle.share_core.specs.declared.event.TheConstants.{MAX_SHARES}
@@ -13,7 +14,7 @@ use Rattle.share_core.specs.declared.event.Stop.{Stop}
 use Rattle.share_core.specs.declared.stored.ClauseAt.{ClauseAt}
 use Rattle.share_core.specs.declared.stored.Cell.{Cell}
 use Rattle.share_core.specs.declared.stored.PutNote.{PutNote}
-use Rattle.share_core.specs.State.{times_at, CoreOpening, opening_of, later, IsCoreOpening, Placed, Part, State, count_at, maker_at, slots, slot_of}
+use Rattle.share_core.specs.State.{times_at, CoreOpening, opening_of, later, ArePaired, IsCoreOpening, Placed, Part, State, count_at, maker_at, slots, slot_of}
 
 -- Counts
 
@@ -101,11 +102,13 @@ abbrev pub placed : ℕ → ℕ → List Entry → List Placed
 placed r i [] = []
 placed r i (e ∷ J) = if ring_of e == r then record { place = i; entry = e } ∷ placed r (i + 1) J else placed r (i + 1) J
 
--- the log is sound and has room; after the ruler's part all entries are of rings
+-- the log is sound and has room; after the opening's journal all entries are of rings, and in a log with hints those of each
+-- addition show that it follows from what is alive before it
 pub record JournalSound (o : CoreOpening) (J : List Entry) : Type 0 where
   pub log : LogSound o.formula J
   pub room : length J ≤ MAX_ENTRIES
   pub begins : (added : List Entry) × (J ≡ o.journal ++ added) × All (λ e. ring_of e < o.rings) added
+  pub hints : o.hinted ≡ true → EachAfter (IsHinted o.formula) o.journal (later o J)
 
 -- what is learned is fresh where it stands, and rings have learned enough when they reduce
 pub record FreshSound (starts : List (List Literal)) (J : List Entry) : Type 0 where
@@ -118,11 +121,14 @@ EntriesOwned o J part = (added : List Entry) × (J ≡ o.journal ++ added) × ((
 
 -- Units, the turn and the stop
 
--- each listed unit is in the formula or was added, none stands twice, and rings have seen them in order
-pub record UnitsSound (F : List (List Literal)) (J : List Entry) (units : List Literal) (part : ℕ → Part) : Type 0 where
+-- each listed unit has the number of a clause that is this unit, is in the formula or was added, and stands once; rings have
+-- seen units and numbers in order, as many of these as of those
+pub record UnitsSound (F : List (List Literal)) (J : List Entry) (units : List Literal) (numbers : List ℕ) (part : ℕ → Part) : Type 0 where
+  pub paired : ArePaired (book F J) units numbers
   pub told : (l : Literal) → has units l ≡ true → is_told F J l ≡ true
   pub distinct : distinct_lits units ≡ true
   pub seen : (r : ℕ) → (rest : List Literal) × (units ≡ (part r).seen ++ rest)
+  pub numbered : (r : ℕ) → (rest : List ℕ) × (numbers ≡ (part r).numbers ++ rest) × (length (part r).numbers ≡ length (part r).seen)
 
 -- the turn is a ring's
 abbrev pub TurnSound : ℕ → Option ℕ → Type 0
@@ -161,7 +167,7 @@ pub record Sound (c : State) : Type 0 where
   pub log : JournalSound c.opening c.journal
   pub entries : EntriesOwned c.opening c.journal c.part
   pub freshness : FreshSound (start_clauses (opening_of c.opening)) (later c.opening c.journal)
-  pub units : UnitsSound c.opening.formula c.journal c.units c.part
+  pub units : UnitsSound c.opening.formula c.journal c.units c.numbers c.part
   pub turns : TurnSound c.opening.rings c.turn
   pub stops : StopSound c.opening.formula c.journal c.opening.rings c.stop
   pub tickets : TicketsSound c.opening c.drawn c.part

@@ -1,10 +1,12 @@
 -- The state of the core: what it was opened with, the journal, the cells with their counts, what each ring has, the
--- slots of the pools, the listed units, the turn, the stop and the number of draws.
-use Rattle.std.specs.Prelude.{◌≢◌, ℕ, ◌+◌, ◌*◌, ◌^◌, ◌≤◌, Bool, false, ◌==◌, List, [], ◌∷◌, ◌++◌, map, length, drop, All, Option, Some, None, if◌then◌else◌}
+-- slots of the pools, the listed units with their numbers, the turn, the stop and the number of draws.
+use Rattle.std.specs.Prelude.{◌≡◌, ◌≢◌, ℕ, ◌+◌, ◌*◌, ◌^◌, ◌≤◌, Bool, false, ◌==◌, List, [], ◌∷◌, ◌++◌, map, length, drop, All, Option, Some, None, if◌then◌else◌}
+use Rattle.std.specs.List.{AllZip}
 use Rattle.sat_words.specs.Literal.{Literal}
 use Rattle.rup_model.specs.declared.journal.TheConstants.{RULER_RING}
 use Rattle.rup_model.specs.declared.journal.Entry.{Entry}
 use Rattle.rup_model.specs.Basics.{one_if}
+use Rattle.rup_model.specs.Journal.{Book, book}
 use Rattle.rup_model.specs.Opening.{Opening, OpensAfter}
 use Rattle.sat_words.specs.declared.shared.TheConstants.{MAX_ENTRIES}
 use Rattle.share_core.specs.declared.event.TheConstants.{MAX_DEPTH}
@@ -37,12 +39,24 @@ with_cell h hs = if h.address == 0 then hs else hs ++ h ∷ []
 abbrev pub opening_of : CoreOpening → Opening
 opening_of o = record { journal = o.journal; starts = map (λ s. record { number = s.number; lits = s.lits }) o.starts; units = o.units }
 
+-- the literals of units that are given with their numbers
+abbrev pub unit_lits : List (Literal × ℕ) → List Literal
+unit_lits us = map (λ u. u.0) us
+
+-- the numbers alone
+abbrev pub unit_numbers : List (Literal × ℕ) → List ℕ
+unit_numbers us = map (λ u. u.1) us
+
 -- the entries after the opening's journal
 abbrev pub later : CoreOpening → List Entry → List Entry
 later o J = drop (length o.journal) J
 
+-- each unit has the number of a clause that is this unit
+abbrev pub ArePaired : Book → List Literal → List ℕ → Type 0
+ArePaired b units numbers = AllZip (λ l n. b.clause n ≡ Some (l ∷ [])) units numbers
+
 -- an opening for 1 to 16 rings, with 1 to 16 slots for each two rings and class, its start clauses at addresses that are
--- not 0 and differ, and a limit so low that the number of draws fits a word
+-- not 0 and differ, numbers of its units, and a limit so low that the number of draws fits a word
 pub record IsCoreOpening (o : CoreOpening) : Type 0 where
   pub some_ring : 1 ≤ o.rings
   pub few_rings : o.rings ≤ RULER_RING
@@ -52,17 +66,19 @@ pub record IsCoreOpening (o : CoreOpening) : Type 0 where
   pub room : length o.journal ≤ MAX_ENTRIES
   pub placed : All (λ s. s.address ≢ 0) o.starts
   pub apart : (a : ℕ) → times_at a o.starts ≤ 1
+  pub paired : ArePaired (book o.formula o.journal) o.units o.numbers
   pub limited : o.limit ≤ 2 ^ 63
 
 -- Rings
 
 -- a ring before its first step
 abbrev pub blank : ℕ → Part
-blank r = record { ring = r; held = []; making = []; waiting = []; seen = []; shared = 0; wrote = []; puts = []; ticket = false; found = 0 }
+blank r = record { ring = r; held = []; making = []; waiting = []; seen = []; numbers = []; shared = 0; wrote = []; puts = []; ticket = false; found = 0 }
 
 -- States
 
--- cells by address, grants that were taken and parts by ring, slots in order, with 0 for an empty one
+-- cells by address, grants that were taken and parts by ring, slots in order, with 0 for an empty one, the listed units and
+-- their numbers
 pub record State : Type 0 where
   pub opening : CoreOpening
   pub journal : List Entry
@@ -71,6 +87,7 @@ pub record State : Type 0 where
   pub part : ℕ → Part
   pub slot : ℕ → ℕ
   pub units : List Literal
+  pub numbers : List ℕ
   pub turn : Option ℕ
   pub stop : Option Stop
   pub drawn : ℕ
@@ -90,6 +107,7 @@ opened o = record {
   part = blank;
   slot = λ _. 0;
   units = o.units;
+  numbers = o.numbers;
   turn = None;
   stop = None;
   drawn = 0;

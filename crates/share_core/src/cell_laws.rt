@@ -2,6 +2,7 @@
 ghost use Rattle.std.specs.Prelude.{◌≡◌, ◌≢◌, ℕ, ◌+◌, ◌*◌, ◌<◌, ◌≤◌, List, ◌++◌, true, false, Contains, Some};
 ghost use Rattle.sat_words.specs.Literal.{Literal};
 ghost use Rattle.sat_words.specs.Clause.{two_or_more};
+ghost use Rattle.rup_model.specs.Hints.{numbered, hinted};
 ghost use Rattle.rup_model.specs.Rup.{rup};
 ghost use Rattle.rup_model.specs.Log.{alive};
 ghost use Rattle.rup_model.specs.declared.journal.TheConstants.{RULER_RING};
@@ -13,7 +14,7 @@ ghost use Rattle.share_core.specs.declared.event.TheConstants.{MAX_SHARES};
 ghost use Rattle.share_core.specs.declared.stored.ClauseAt.{ClauseAt};
 ghost use Rattle.share_core.specs.declared.stored.Cell.{Cell};
 ghost use Rattle.share_core.specs.State.{times_at, State, count_at, clause_at, slots};
-ghost use Rattle.share_core.specs.Learning.{follows};
+ghost use Rattle.share_core.specs.Learning.{known, follows};
 ghost use Rattle.share_core.specs.Sound.{Sound};
 ghost use Rattle.share_core.specs.Readable.{deleted, IsInCell, IsOpenCell};
 
@@ -66,10 +67,15 @@ pub fn numbers_are_below_the_next()
     ensures starts { (c : State) (s : ClauseAt) → Sound c → Contains c.opening.starts s → s.number < (book c.opening.formula c.journal).next }
 {}
 
-/// A clause that follows from what a ring knows is RUP over what the log leaves alive.
+/// A clause that follows from what a ring knows is RUP over what the log leaves alive; in a log with hints they show that it
+/// follows from that, too. Each number that a ring knows names its clause.
 pub fn what_follows_is_valid()
-    ensures { (c : State) (r : ℕ) (lits : List Literal) → Sound c → r < c.opening.rings → follows (c.part r) lits ≡ true
+    ensures valid { (c : State) (r : ℕ) (lits : List Literal) (hints : List ℕ) → Sound c → r < c.opening.rings → follows c.opening.hinted (c.part r) lits hints ≡ true
         → rup (alive c.opening.formula (lines c.opening.formula c.journal)) lits ≡ true }
+    ensures hints { (c : State) (r : ℕ) (lits : List Literal) (hints : List ℕ) → Sound c → r < c.opening.rings → c.opening.hinted ≡ true
+        → follows c.opening.hinted (c.part r) lits hints ≡ true → hinted (book c.opening.formula c.journal).clause lits hints ≡ true }
+    ensures named { (c : State) (r n : ℕ) (lits : List Literal) → Sound c → r < c.opening.rings → numbered (known (c.part r)) n ≡ Some lits
+        → (book c.opening.formula c.journal).clause n ≡ Some lits }
 {}
 
 /// Each start clause, and each addition of two literals or more after the opening's journal, is the clause of a cell,

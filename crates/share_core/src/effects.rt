@@ -4,16 +4,16 @@ ghost use Rattle.std.specs.Prelude.{◌≡◌, ◌<◌, ◌≤◌, ◌+◌, ◌*
 ghost use Rattle.sat_words.specs.declared.line.Line.TheVariants.{Add as AddLine, Del as DelLine};
 ghost use Rattle.rup_model.specs.declared.journal.Entry.TheVariants.{Add as AddEntry};
 ghost use Rattle.rup_model.specs.Journal.{book};
-ghost use Rattle.share_core.specs.declared.event.Event.TheVariants.{Grant, TakeTurn, GiveTurn, AddClause, AddUnit, AddEmpty, Reduce as ReduceEvent, OpenCell, Share, DropCount, Bury, Put, Get, Publish, See, Stop as StopEvent, Draw};
+ghost use Rattle.share_core.specs.declared.event.Event.TheVariants.{Grant, TakeTurn, GiveTurn, AddClause, AddUnit, AddEmpty, Reduce as ReduceEvent, OpenCell, Share, DropCount, Bury, Put, Get, Publish, See, Stop as StopEvent};
 ghost use Rattle.share_core.specs.declared.event.TheConstants.{MAX_DEPTH};
 ghost use Rattle.share_core.specs.declared.progress.Origin.{Origin};
 ghost use Rattle.share_core.specs.State.{clause_at};
 ghost use Rattle.share_core.specs.Enabled.{IsEnabled};
-ghost use Rattle.share_core.specs.Learning.{ticket_after};
 ghost use Rattle.share_core.specs.Events.{after};
 ghost use Rattle.share_core.specs.Machine.{data_of, state_of, Logged, Kept};
 
 use crate::cells::{clause_of, count_of, lits_of, number_of, remove_cell, set_count};
+use crate::draws::ticket_after;
 use crate::event::Stop;
 use crate::journal::next_number;
 use crate::progress::{Origin, Progress};
@@ -22,16 +22,6 @@ use crate::stored::{Cell, ClauseAt, PutNote, StoredCell};
 use rup_model::{Addition, ClauseNumbers, Entry, Kind};
 use sat_words::{Line, Lit, Lits, MAX_ENTRIES};
 use std::alloc::{AllocError, Global};
-
-/// Whether a ticket is in hand after something of this kind was added.
-fn ticket_after(kind: Kind, ticket: bool) -> bool
-    ensures { result ≡ ticket_after kind ticket }
-{
-    match kind {
-        Kind::Learn => false,
-        Kind::Ruler | Kind::Derive | Kind::UnitLine => ticket,
-    }
-}
 
 impl Progress {
     /// Where the first of a ring's slots for another ring and a class stands, if there is one for each two rings and
@@ -103,10 +93,11 @@ impl Progress {
         ring: u32,
         kind: Kind,
         lits: &[Lit],
+        hints: &[u64],
     ) -> Result<u64, AllocError>
         requires { length self.old.journal ≤ MAX_ENTRIES }
         ensures number { IfOk result (λ n. n ≡ (book origin.now.formula.clauses self.old.journal).next) }
-        ensures after { IfOk result (λ n. self.new ≡ record self.old { journal = self.old.journal ++ AddEntry (record { ring = ring; number = n; lits = lits.now; kind = kind; hints = [] }) ∷ []; lines = self.old.lines ++ AddLine lits.now ∷ [] }) }
+        ensures after { IfOk result (λ n. self.new ≡ record self.old { journal = self.old.journal ++ AddEntry (record { ring = ring; number = n; lits = lits.now; kind = kind; hints = hints.now }) ∷ []; lines = self.old.lines ++ AddLine lits.now ∷ [] }) }
     {
         let number = next_number(origin.formula.clauses(), self.journal.as_slice());
         self.journal.push(Entry::Add(Addition {
@@ -114,7 +105,7 @@ impl Progress {
             number,
             lits: Lits::from_slice(alloc, lits)?,
             kind,
-            hints: ClauseNumbers::from_slice(alloc, &[])?,
+            hints: ClauseNumbers::from_slice(alloc, hints)?,
         }))?;
         self.lines.push(Line::Add(Lits::from_slice(alloc, lits)?))?;
         Ok(number)
@@ -128,15 +119,16 @@ impl Progress {
         ring: u32,
         kind: Kind,
         lits: &[Lit],
+        hints: &[u64],
         address: u64,
     ) -> Result<(), AllocError>
         requires kept { Kept (data_of origin.now self.old) }
-        requires enabled { IsEnabled (state_of (data_of origin.now self.old)) (AddClause ring kind lits.now address) }
-        ensures after { OnOk result (state_of (data_of origin.now self.new) ≡ after (state_of (data_of origin.now self.old)) (AddClause ring kind lits.now address)) }
+        requires enabled { IsEnabled (state_of (data_of origin.now self.old)) (AddClause ring kind lits.now hints.now address) }
+        ensures after { OnOk result (state_of (data_of origin.now self.new) ≡ after (state_of (data_of origin.now self.old)) (AddClause ring kind lits.now hints.now address)) }
         ensures logged { OnOk result (Logged (data_of origin.now self.new)) }
         ensures wide { OnOk result (length self.new.slots.items ≡ length self.old.slots.items) }
     {
-        let number = self.note_addition(alloc, origin, ring, kind, lits)?;
+        let number = self.note_addition(alloc, origin, ring, kind, lits, hints)?;
         self.cells.push(StoredCell {
             address,
             cell: Cell {
@@ -164,14 +156,15 @@ impl Progress {
         ring: u32,
         kind: Kind,
         lit: Lit,
+        hints: &[u64],
     ) -> Result<(), AllocError>
         requires kept { Kept (data_of origin.now self.old) }
-        requires enabled { IsEnabled (state_of (data_of origin.now self.old)) (AddUnit ring kind lit) }
-        ensures after { OnOk result (state_of (data_of origin.now self.new) ≡ after (state_of (data_of origin.now self.old)) (AddUnit ring kind lit)) }
+        requires enabled { IsEnabled (state_of (data_of origin.now self.old)) (AddUnit ring kind lit hints.now) }
+        ensures after { OnOk result (state_of (data_of origin.now self.new) ≡ after (state_of (data_of origin.now self.old)) (AddUnit ring kind lit hints.now)) }
         ensures logged { OnOk result (Logged (data_of origin.now self.new)) }
         ensures wide { OnOk result (length self.new.slots.items ≡ length self.old.slots.items) }
     {
-        self.note_addition(alloc, origin, ring, kind, &[lit])?;
+        self.note_addition(alloc, origin, ring, kind, &[lit], hints)?;
         let own = &mut self.rings[ring as usize];
         own.ticket = ticket_after(kind, own.ticket);
         Ok(())
@@ -183,14 +176,15 @@ impl Progress {
         alloc: Global,
         origin: &Origin,
         ring: u32,
+        hints: &[u64],
     ) -> Result<(), AllocError>
         requires kept { Kept (data_of origin.now self.old) }
-        requires enabled { IsEnabled (state_of (data_of origin.now self.old)) (AddEmpty ring) }
-        ensures after { OnOk result (state_of (data_of origin.now self.new) ≡ after (state_of (data_of origin.now self.old)) (AddEmpty ring)) }
+        requires enabled { IsEnabled (state_of (data_of origin.now self.old)) (AddEmpty ring hints.now) }
+        ensures after { OnOk result (state_of (data_of origin.now self.new) ≡ after (state_of (data_of origin.now self.old)) (AddEmpty ring hints.now)) }
         ensures logged { OnOk result (Logged (data_of origin.now self.new)) }
         ensures wide { OnOk result (length self.new.slots.items ≡ length self.old.slots.items) }
     {
-        self.note_addition(alloc, origin, ring, Kind::Derive, &[])?;
+        self.note_addition(alloc, origin, ring, Kind::Derive, &[], hints)?;
         Ok(())
     }
 
@@ -355,16 +349,25 @@ impl Progress {
     }
 
     /// The unit is listed, and the ring has seen it.
-    pub(crate) fn publish(&mut self, origin: &Origin, ring: u32, lit: Lit) -> Result<(), AllocError>
+    pub(crate) fn publish(
+        &mut self,
+        origin: &Origin,
+        ring: u32,
+        lit: Lit,
+        number: u64,
+    ) -> Result<(), AllocError>
         requires kept { Kept (data_of origin.now self.old) }
-        requires enabled { IsEnabled (state_of (data_of origin.now self.old)) (Publish ring lit) }
-        ensures after { OnOk result (state_of (data_of origin.now self.new) ≡ after (state_of (data_of origin.now self.old)) (Publish ring lit)) }
+        requires enabled { IsEnabled (state_of (data_of origin.now self.old)) (Publish ring lit number) }
+        ensures after { OnOk result (state_of (data_of origin.now self.new) ≡ after (state_of (data_of origin.now self.old)) (Publish ring lit number)) }
         ensures logged { OnOk result (Logged (data_of origin.now self.new)) }
         ensures wide { OnOk result (length self.new.slots.items ≡ length self.old.slots.items) }
     {
         self.units.push(lit)?;
+        self.numbers.push(number)?;
         let own = &mut self.rings[ring as usize];
-        own.seen.push(lit)
+        own.seen.push(lit)?;
+        own.numbers.push(number)?;
+        Ok(())
     }
 
     /// The ring has seen the next unit.
@@ -376,8 +379,10 @@ impl Progress {
         ensures wide { OnOk result (length self.new.slots.items ≡ length self.old.slots.items) }
     {
         let own = &mut self.rings[ring as usize];
-        let next = self.units.as_slice()[own.seen.len()];
-        own.seen.push(next)
+        let place = own.seen.len();
+        own.seen.push(self.units.as_slice()[place])?;
+        own.numbers.push(self.numbers.as_slice()[place])?;
+        Ok(())
     }
 
     /// The stop is set, if none stands.
@@ -391,21 +396,5 @@ impl Progress {
         if self.stop.is_none() {
             self.stop = Some(Stop { kind, ring });
         }
-    }
-
-    /// One more ticket is drawn, and the ring has it in hand if there was one left.
-    pub(crate) fn draw(&mut self, origin: &Origin, ring: u32)
-        requires kept { Kept (data_of origin.now self.old) }
-        requires enabled { IsEnabled (state_of (data_of origin.now self.old)) (Draw ring) }
-        ensures after { state_of (data_of origin.now self.new) ≡ after (state_of (data_of origin.now self.old)) (Draw ring) }
-        ensures logged { Logged (data_of origin.now self.new) }
-        ensures wide { length self.new.slots.items ≡ length self.old.slots.items }
-    {
-        let left = self.drawn < origin.limit;
-        let drawn = self.drawn + 1;
-        let own = &mut self.rings[ring as usize];
-        own.ticket = left;
-        own.found = drawn;
-        self.drawn = drawn;
     }
 }

@@ -1,4 +1,4 @@
-use rup_model::Kind;
+use rup_model::{ClauseNumbers, Kind};
 use sat_words::{Lit, Lits};
 
 /// No ring shares its clauses more often than this, so that no count overflows a word.
@@ -44,6 +44,8 @@ pub enum Event {
         kind: Kind,
         /// The literals, in the order of the line.
         lits: Lits,
+        /// In a log with hints, the numbers of clauses that show one after another that it follows; in other logs none.
+        hints: ClauseNumbers,
         /// Where the cell is to stand.
         address: u64,
     },
@@ -55,11 +57,15 @@ pub enum Event {
         kind: Kind,
         /// The unit.
         lit: Lit,
+        /// Hints as for a clause.
+        hints: ClauseNumbers,
     },
     /// Adds the empty clause, which ends the log.
     AddEmpty {
         /// Whose step it is.
         ring: u32,
+        /// Hints as for a clause.
+        hints: ClauseNumbers,
     },
     /// Notes that the ring reduces what it has learned.
     Reduce {
@@ -131,6 +137,8 @@ pub enum Event {
         ring: u32,
         /// The unit.
         lit: Lit,
+        /// The number of a clause that is this unit.
+        number: u64,
     },
     /// Sees the next listed unit.
     See {

@@ -7,17 +7,20 @@ ghost use Rattle.rup_model.specs.Journal.{book, is_told};
 ghost use Rattle.share_core.specs.declared.stored.ClauseAt.{ClauseAt};
 ghost use Rattle.share_core.specs.declared.ring.RingState.{RingState};
 ghost use Rattle.share_core.specs.Machine.{data_of, state_of, Kept};
+ghost use Rattle.share_core.specs.State.{ArePaired, unit_lits, unit_numbers};
 ghost use Rattle.share_core.specs.NextRound.{IsDeletion, AreDeleted, may_start, stand_apart, MayBegin};
 
-use crate::guards::{are_distinct, is_long};
+use crate::guards::{are_distinct, is_long, is_unit};
 use crate::items::Items;
 use crate::journal::{is_ended, is_told};
+use crate::openings::unit_lits;
 use crate::progress::{Origin, Progress};
 use crate::ring::RingState;
-use crate::rounds::{find_spare, in_order, numbers_of, starts_in};
+use crate::round_line::RoundLine;
+use crate::rounds::{clause_under, in_order, is_spare, numbers_of, starts_in};
 use crate::stored::ClauseAt;
 use rup_model::{ClauseNumbers, Entry, RULER_RING, Round};
-use sat_words::{Clause, Line, Lit, Lits, MAX_ENTRIES};
+use sat_words::{Clause, Lit, Lits, MAX_ENTRIES};
 use std::alloc::{AllocError, Global};
 
 /// Whether no ring builds a cell.
@@ -34,24 +37,27 @@ fn is_in_order(alloc: Global, lits: &Lits) -> Result<bool, AllocError>
     Ok(in_order(alloc, lits.as_slice())? == *lits)
 }
 
-/// The number that the line deletes, if it deletes a long clause in order that has a spare copy.
+/// The number that the line deletes, if it deletes a long clause in order, and is that of a spare copy.
 fn deleted_by(
     alloc: Global,
     clauses: &[Clause],
     journal: &[Entry],
     kept: &[u64],
-    line: &Line,
+    line: &RoundLine,
 ) -> Result<Option<u64>, AllocError>
     requires { length journal.now ≤ MAX_ENTRIES }
     ensures { IfOk result (λ found. IfSome found (λ n. IsDeletion (book clauses.now journal.now) kept.now line.now n)) }
 {
     match line {
-        Line::Add(_) => Ok(None),
-        Line::Del(lits) => {
+        RoundLine::Add { .. } => Ok(None),
+        RoundLine::Del { number, lits } => {
             if !is_long(lits.as_slice()) || !is_in_order(alloc, lits)? {
                 return Ok(None);
             }
-            find_spare(alloc, clauses, journal, kept, lits.as_slice())
+            if !is_spare(alloc, clauses, journal, kept, lits.as_slice(), *number)? {
+                return Ok(None);
+            }
+            Ok(Some(*number))
         }
     }
 }
@@ -61,7 +67,7 @@ fn note_deletions(
     alloc: Global,
     clauses: &[Clause],
     kept: &[u64],
-    lines: &[Line],
+    lines: &[RoundLine],
     journal: &mut Items<Entry>,
 ) -> Result<bool, AllocError>
     requires { length journal.old + length lines.now ≤ MAX_ENTRIES }
@@ -114,6 +120,25 @@ fn all_told(clauses: &[Clause], journal: &[Entry], units: &[Lit]) -> bool
     units.iter().all(|lit| is_told(clauses, journal, *lit))
 }
 
+/// Whether each unit has the number of a clause that is this unit.
+fn are_paired(
+    alloc: Global,
+    clauses: &[Clause],
+    journal: &[Entry],
+    units: &[(Lit, u64)],
+) -> Result<bool, AllocError>
+    requires { length journal.now ≤ MAX_ENTRIES }
+    ensures { IfOk result (λ yes. yes ≡ true → ArePaired (book clauses.now journal.now) (unit_lits units.now) (unit_numbers units.now)) }
+{
+    for unit in units {
+        let clause = clause_under(alloc, clauses, journal, unit.1)?;
+        if !is_unit(&clause, unit.0) {
+            return Ok(false);
+        }
+    }
+    Ok(true)
+}
+
 /// Whether rings may start with these after the journal, if the clauses are alive.
 fn all_fit(clauses: &[Clause], journal: &[Entry], starts: &[ClauseAt], units: &[Lit]) -> bool
     ensures { result ≡ (list_all may_start starts.now && (stand_apart starts.now && (list_all (is_told clauses.now journal.now) units.now && distinct_lits units.now))) }
@@ -129,9 +154,9 @@ pub(crate) fn may_begin(
     alloc: Global,
     origin: &Origin,
     progress: &Progress,
-    lines: &[Line],
+    lines: &[RoundLine],
     start: &[(u64, u64)],
-    units: &[Lit],
+    units: &[(Lit, u64)],
     limit: u64,
 ) -> Result<bool, AllocError>
     requires { Kept (data_of origin.now progress.now) }
@@ -151,10 +176,19 @@ pub(crate) fn may_begin(
     if !note_deletions(alloc, clauses, kept.as_slice(), lines, &mut journal)? {
         return Ok(false);
     }
+    let listed = unit_lits(alloc, units)?;
     journal.push(Entry::Round(Round {
         starts: ClauseNumbers::from_slice(alloc, kept.as_slice())?,
-        units: Lits::from_slice(alloc, units)?,
+        units: Lits::from_slice(alloc, listed.as_slice())?,
     }))?;
     let starts = starts_in(alloc, clauses, journal.as_slice(), start)?;
-    Ok(all_fit(clauses, journal.as_slice(), starts.as_slice(), units))
+    if !are_paired(alloc, clauses, journal.as_slice(), units)? {
+        return Ok(false);
+    }
+    Ok(all_fit(
+        clauses,
+        journal.as_slice(),
+        starts.as_slice(),
+        listed.as_slice(),
+    ))
 }

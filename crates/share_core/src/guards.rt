@@ -11,16 +11,18 @@ ghost use Rattle.share_core.specs.Learning.{follows, may_learn, may_derive};
 ghost use Rattle.share_core.specs.State.{opening_of, later};
 ghost use Rattle.rup_model.specs.Opening.{start_clauses};
 ghost use Rattle.share_core.specs.Machine.{has_at, data_of, ring_in, state_of};
-ghost use Rattle.share_core.specs.Guards.{is_long, may_add, may_tell, writes, holds, exchanges, is_enabled};
+ghost use Rattle.share_core.specs.Guards.{is_long, is_unit, may_add, may_tell, writes, holds, exchanges, is_enabled};
 
 use crate::cells::is_free;
 use crate::event::{Event, MAX_SHARES};
-use crate::journal::{contains, count_recent, includes, is_ended, is_told, repeats_recent};
-use crate::progress::{Origin, Progress, follows};
+use crate::journal::{contains, count_recent, includes, is_ended, repeats_recent};
+use crate::knowledge::{is_implied, is_shown};
+use crate::progress::{Origin, Progress};
 use crate::ring::has_at;
+use crate::rounds::clause_under;
 use crate::stored::ClauseAt;
 use rup_model::{Kind, LEARNED_PER_REDUCTION};
-use sat_words::{Lit, MAX_ENTRIES};
+use sat_words::{Lit, Lits, MAX_ENTRIES};
 use std::alloc::{AllocError, Global};
 
 pub(crate) fn are_distinct(lits: &[Lit]) -> bool
@@ -43,6 +45,19 @@ pub(crate) fn is_long(lits: &[Lit]) -> bool
     ensures { result ≡ is_long lits.now }
 {
     lits.len() >= 2 && are_distinct(lits) && !has_opposites(lits)
+}
+
+/// Whether it is a clause of this literal alone.
+pub(crate) fn is_unit(clause: &Option<Lits>, lit: Lit) -> bool
+    ensures { result ≡ is_unit lit clause.now }
+{
+    let Some(lits) = clause else {
+        return false;
+    };
+    match lits.as_slice() {
+        [only] => lit == *only,
+        _ => false,
+    }
 }
 
 /// Whether some clause of the list has all these literals.
@@ -74,13 +89,6 @@ impl Progress {
         ensures { let c = state_of (data_of origin.now self.now) in result ≡ may_learn c.opening c.journal (c.part ring) ring lits.now }
     {
         self.ring(ring).ticket && self.is_fresh(origin, ring, lits)
-    }
-
-    /// Whether the ring has no ticket in hand, and each draw of it so far found one left.
-    fn may_draw(&self, origin: &Origin, ring: u32) -> bool
-        ensures { result ≡ is_enabled (state_of (data_of origin.now self.now)) (Event.Draw ring) }
-    {
-        self.is_ring(ring) && !self.ring(ring).ticket && self.ring(ring).found <= origin.limit
     }
 
     /// Whether a clause of this kind may be added.
@@ -117,13 +125,28 @@ impl Progress {
             && (self.journal.len() as u64) < MAX_ENTRIES
     }
 
-    /// Whether the literals follow from what the ring knows.
-    fn follows(&self, alloc: Global, ring: u32, lits: &[Lit]) -> Result<bool, AllocError>
+    /// Whether the literals follow from what the ring knows: in a log with hints, as the hints show.
+    fn follows(
+        &self,
+        alloc: Global,
+        origin: &Origin,
+        ring: u32,
+        lits: &[Lit],
+        hints: &[u64],
+    ) -> Result<bool, AllocError>
         requires { ring < length self.now.rings.items }
-        ensures { (o : Origin) → IfOk result (λ yes. yes ≡ follows ((state_of (data_of o self.now)).part ring) lits.now) }
+        ensures { IfOk result (λ yes. yes ≡ follows origin.now.hinted ((state_of (data_of origin.now self.now)).part ring) lits.now hints.now) }
     {
         let own = self.ring(ring);
-        follows(alloc, own.held.as_slice(), own.seen.as_slice(), lits)
+        let held = own.held.as_slice();
+        let seen = own.seen.as_slice();
+        if origin.hinted {
+            return is_shown(alloc, held, seen, own.numbers.as_slice(), lits, hints);
+        }
+        if hints.len() != 0 {
+            return Ok(false);
+        }
+        is_implied(alloc, held, seen, lits)
     }
 
     /// Whether the ring may write, and may add the clause except for what it knows.
@@ -144,14 +167,15 @@ impl Progress {
         ring: u32,
         kind: Kind,
         lits: &[Lit],
+        hints: &[u64],
         address: u64,
     ) -> Result<bool, AllocError>
-        ensures { IfOk result (λ yes. yes ≡ is_enabled (state_of (data_of origin.now self.now)) (Event.AddClause ring kind lits.now address)) }
+        ensures { IfOk result (λ yes. yes ≡ is_enabled (state_of (data_of origin.now self.now)) (Event.AddClause ring kind lits.now hints.now address)) }
     {
         if !self.may_build(origin, ring, kind, lits, address) {
             return Ok(false);
         }
-        self.follows(alloc, ring, lits)
+        self.follows(alloc, origin, ring, lits, hints)
     }
 
     fn may_add_unit(
@@ -161,22 +185,29 @@ impl Progress {
         ring: u32,
         kind: Kind,
         lit: Lit,
+        hints: &[u64],
     ) -> Result<bool, AllocError>
-        ensures { IfOk result (λ yes. yes ≡ is_enabled (state_of (data_of origin.now self.now)) (Event.AddUnit ring kind lit)) }
+        ensures { IfOk result (λ yes. yes ≡ is_enabled (state_of (data_of origin.now self.now)) (Event.AddUnit ring kind lit hints.now)) }
     {
         if !self.may_tell(origin, ring, kind, &[lit]) {
             return Ok(false);
         }
-        self.follows(alloc, ring, &[lit])
+        self.follows(alloc, origin, ring, &[lit], hints)
     }
 
-    fn may_add_empty(&self, alloc: Global, origin: &Origin, ring: u32) -> Result<bool, AllocError>
-        ensures { IfOk result (λ yes. yes ≡ is_enabled (state_of (data_of origin.now self.now)) (Event.AddEmpty ring)) }
+    fn may_add_empty(
+        &self,
+        alloc: Global,
+        origin: &Origin,
+        ring: u32,
+        hints: &[u64],
+    ) -> Result<bool, AllocError>
+        ensures { IfOk result (λ yes. yes ≡ is_enabled (state_of (data_of origin.now self.now)) (Event.AddEmpty ring hints.now)) }
     {
         if !self.writes(origin, ring) {
             return Ok(false);
         }
-        self.follows(alloc, ring, &[])
+        self.follows(alloc, origin, ring, &[], hints)
     }
 
     fn may_reduce(&self, origin: &Origin, ring: u32) -> bool
@@ -196,14 +227,33 @@ impl Progress {
             && place < origin.depth
     }
 
-    fn may_publish(&self, origin: &Origin, ring: u32, lit: Lit) -> bool
-        ensures { result ≡ is_enabled (state_of (data_of origin.now self.now)) (Event.Publish ring lit) }
+    /// Whether the ring has the turn and has seen all units, and this is none.
+    fn may_list(&self, ring: u32, lit: Lit) -> bool
+        ensures { result ≡ (nat_lt ring (length self.now.rings.items) && (is_ring ring self.now.turn && ((length (ring_in self.now.rings.items ring).seen == length self.now.units) && not (has self.now.units lit)))) }
     {
         self.is_ring(ring)
             && self.has_turn(ring)
-            && is_told(origin.formula.clauses(), self.journal.as_slice(), lit)
             && self.ring(ring).seen.len() == self.units.len()
             && !contains(self.units.as_slice(), lit)
+    }
+
+    fn may_publish(
+        &self,
+        alloc: Global,
+        origin: &Origin,
+        ring: u32,
+        lit: Lit,
+        number: u64,
+    ) -> Result<bool, AllocError>
+        requires { length self.now.journal ≤ MAX_ENTRIES }
+        ensures { IfOk result (λ yes. yes ≡ is_enabled (state_of (data_of origin.now self.now)) (Event.Publish ring lit number)) }
+    {
+        if !self.may_list(ring, lit) {
+            return Ok(false);
+        }
+        let clauses = origin.formula.clauses();
+        let clause = clause_under(alloc, clauses, self.journal.as_slice(), number)?;
+        Ok(is_unit(&clause, lit))
     }
 
     fn may_stop(&self, origin: &Origin, ring: u32, kind: u8) -> bool
@@ -222,6 +272,7 @@ impl Progress {
         origin: &Origin,
         event: &Event,
     ) -> Result<bool, AllocError>
+        requires { length self.now.journal ≤ MAX_ENTRIES }
         ensures { IfOk result (λ yes. yes ≡ is_enabled (state_of (data_of origin.now self.now)) event.now) }
     {
         Ok(match event {
@@ -232,12 +283,26 @@ impl Progress {
                 ring,
                 kind,
                 lits,
+                hints,
                 address,
-            } => self.may_add_clause(alloc, origin, *ring, *kind, lits.as_slice(), *address)?,
-            Event::AddUnit { ring, kind, lit } => {
-                self.may_add_unit(alloc, origin, *ring, *kind, *lit)?
+            } => self.may_add_clause(
+                alloc,
+                origin,
+                *ring,
+                *kind,
+                lits.as_slice(),
+                hints.as_slice(),
+                *address,
+            )?,
+            Event::AddUnit {
+                ring,
+                kind,
+                lit,
+                hints,
+            } => self.may_add_unit(alloc, origin, *ring, *kind, *lit, hints.as_slice())?,
+            Event::AddEmpty { ring, hints } => {
+                self.may_add_empty(alloc, origin, *ring, hints.as_slice())?
             }
-            Event::AddEmpty { ring } => self.may_add_empty(alloc, origin, *ring)?,
             Event::Reduce { ring } => self.may_reduce(origin, *ring),
             Event::OpenCell { ring, address } => {
                 self.is_ring(*ring) && has_at(&self.ring(*ring).making, *address)
@@ -267,7 +332,9 @@ impl Progress {
                 class,
                 place,
             } => self.may_exchange(origin, *ring, *from, *class, *place),
-            Event::Publish { ring, lit } => self.may_publish(origin, *ring, *lit),
+            Event::Publish { ring, lit, number } => {
+                self.may_publish(alloc, origin, *ring, *lit, *number)?
+            }
             Event::See { ring } => {
                 self.is_ring(*ring) && self.ring(*ring).seen.len() < self.units.len()
             }

@@ -1,7 +1,9 @@
 //! What every list of enabled events keeps.
-ghost use Rattle.std.specs.Prelude.{◌≡◌, ◌<◌, ◌≤◌, ℕ, List, ◌++◌, map, length, fold, All};
+ghost use Rattle.std.specs.Prelude.{◌≡◌, ◌<◌, ◌≤◌, ℕ, true, List, ◌++◌, map, length, fold, All};
 ghost use Rattle.rup_model.specs.declared.journal.Entry.{Entry};
+ghost use Rattle.rup_model.specs.Basics.{EachAfter};
 ghost use Rattle.rup_model.specs.Journal.{ring_of, recent};
+ghost use Rattle.rup_model.specs.NumberedLines.{IsHinted, AreHinted};
 ghost use Rattle.share_core.specs.declared.event.Event.{Event};
 ghost use Rattle.share_core.specs.State.{later, Placed, CoreOpening, IsCoreOpening, State, opened};
 ghost use Rattle.share_core.specs.Enabled.{IsEnabled, AllEnabled};
@@ -37,6 +39,14 @@ pub fn journals_grow()
 pub fn entries_are_of_rings()
     ensures longer { (c : State) → Sound c → length c.opening.journal ≤ length c.journal }
     ensures rings { (c : State) → Sound c → (added : List Entry) × (c.journal ≡ c.opening.journal ++ added) × All (λ e. ring_of e < c.opening.rings) added }
+{}
+
+/// In a log with hints, those of each addition after the opening's journal show that it follows from what is alive before it;
+/// so do those of the whole journal, if those of the opening's do.
+pub fn additions_are_hinted()
+    ensures later { (c : State) → Sound c → c.opening.hinted ≡ true
+        → (added : List Entry) × (c.journal ≡ c.opening.journal ++ added) × EachAfter (IsHinted c.opening.formula) c.opening.journal added }
+    ensures whole { (c : State) → Sound c → c.opening.hinted ≡ true → AreHinted c.opening.formula c.opening.journal → AreHinted c.opening.formula c.journal }
 {}
 
 /// What a ring learned since it last reduced is told by its own entries.

@@ -9,17 +9,22 @@
 
 mod cell_laws;
 mod cells;
+mod draws;
 mod effects;
 mod event;
 mod fitting;
 mod guards;
 mod items;
 mod journal;
+mod knowledge;
 mod laws;
+mod next_round;
+mod openings;
 mod part;
 mod progress;
 mod ring;
 mod ring_laws;
+mod round_line;
 mod rounds;
 mod running;
 mod stored;
@@ -30,13 +35,15 @@ pub use cell_laws::{
 };
 pub use event::{Event, MAX_DEPTH, MAX_SHARES, Stop};
 pub use laws::{
-    enabled_events_keep_sound, enabled_lists_join, entries_are_of_rings, events_keep_sound,
-    events_leave_states, journals_grow, openings_are_sound, recent_by_own_entries, sound_is_plain,
+    additions_are_hinted, enabled_events_keep_sound, enabled_lists_join, entries_are_of_rings,
+    events_keep_sound, events_leave_states, journals_grow, openings_are_sound,
+    recent_by_own_entries, sound_is_plain,
 };
 pub use part::{CoreOpening, Part, Placed};
 pub use ring_laws::{
     guards_stay_enabled, others_stay, shares_are_counted, the_first_stop_stays,
     the_turn_is_a_rings, the_turn_keeps_the_log, tickets_are_counted, units_grow,
 };
+pub use round_line::RoundLine;
 pub use running::{Core, Step};
 pub use stored::{Cell, ClauseAt, PutNote};

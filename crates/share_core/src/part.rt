@@ -4,7 +4,8 @@ use sat_words::Lit;
 use std::collections::LinkedList;
 
 /// The formula, the numbers of rings and of slots, the ruler's journal, the start clauses in their cells, the units that
-/// are listed from the start, and the limit of what is learned. No value of it is made.
+/// are listed from the start with their numbers, the limit of what is learned, and whether additions have hints. No value
+/// of it is made.
 pub struct CoreOpening {
     /// The formula's clauses.
     pub formula: LinkedList<LinkedList<Lit>>,
@@ -18,8 +19,12 @@ pub struct CoreOpening {
     pub starts: LinkedList<ClauseAt>,
     /// The units that are listed from the start.
     pub units: LinkedList<Lit>,
+    /// Their numbers, in the same order: each is that of a clause that is the unit.
+    pub numbers: LinkedList<u64>,
     /// How many clauses the rings may learn together.
     pub limit: u64,
+    /// Whether each addition of the rings has hints.
+    pub hinted: bool,
 }
 
 /// An entry with its place in the journal. No value of it is made.
@@ -42,6 +47,8 @@ pub struct Part {
     pub waiting: LinkedList<ClauseAt>,
     /// The units that it has seen.
     pub seen: LinkedList<Lit>,
+    /// Their numbers, in the same order.
+    pub numbers: LinkedList<u64>,
     /// How often it has shared.
     pub shared: u64,
     /// What it wrote, in order.

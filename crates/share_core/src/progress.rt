@@ -1,9 +1,5 @@
 // The executable core, which the program never runs: it makes the definitions of specs/ run, for tests.
-ghost use Rattle.std.specs.Prelude.{◌≡◌, ◌<◌, ◌&&◌, ◌==◌, ◌∷◌, [], ◌++◌, map, nat_lt, not, length, IfOk, fold};
-ghost use Rattle.std.specs.List.{list_any};
-ghost use Rattle.sat_words.specs.Literal.{Literal};
-ghost use Rattle.rup_model.specs.Rup.{rup};
-ghost use Rattle.share_core.specs.declared.stored.ClauseAt.{ClauseAt};
+ghost use Rattle.std.specs.Prelude.{◌≡◌, ◌<◌, ◌&&◌, nat_lt, length, IfOk};
 ghost use Rattle.share_core.specs.declared.progress.Origin.{Origin};
 ghost use Rattle.rup_model.specs.Journal.{is_ring};
 ghost use Rattle.share_core.specs.State.{later};
@@ -13,8 +9,8 @@ use crate::event::Stop;
 use crate::items::{Items, copies};
 use crate::ring::{RingState, has_at};
 use crate::stored::{ClauseAt, StoredCell};
-use rup_model::{Entry, is_rup};
-use sat_words::{Formula, Line, Lit, Lits};
+use rup_model::Entry;
+use sat_words::{Formula, Line, Lit};
 use std::alloc::{AllocError, Global};
 
 /// What a core was opened with.
@@ -25,8 +21,10 @@ pub(crate) struct Origin {
     pub(crate) journal: Items<Entry>,
     pub(crate) starts: Items<ClauseAt>,
     pub(crate) units: Items<Lit>,
+    pub(crate) numbers: Items<u64>,
     pub(crate) depth: u32,
     pub(crate) limit: u64,
+    pub(crate) hinted: bool,
 }
 
 /// What the events have changed so far.
@@ -40,6 +38,7 @@ pub(crate) struct Progress {
     pub(crate) rings: Vec<RingState>,
     pub(crate) slots: Vec<u64>,
     pub(crate) units: Items<Lit>,
+    pub(crate) numbers: Items<u64>,
     pub(crate) turn: Option<u32>,
     pub(crate) stop: Option<Stop>,
     pub(crate) drawn: u64,
@@ -57,6 +56,7 @@ impl Progress {
             rings: copies(alloc, self.rings.as_slice())?,
             slots: Vec::from_slice(alloc, self.slots.as_slice())?,
             units: self.units.copied(alloc)?,
+            numbers: self.numbers.copied(alloc)?,
             turn: self.turn,
             stop: self.stop,
             drawn: self.drawn,
@@ -105,23 +105,4 @@ impl Progress {
     {
         self.is_ring(ring) && has_at(&self.ring(ring).held, address)
     }
-}
-
-/// Whether the literals follow by unit propagation from the clauses and the units.
-pub(crate) fn follows(
-    alloc: Global,
-    held: &[ClauseAt],
-    seen: &[Lit],
-    lits: &[Lit],
-) -> Result<bool, AllocError>
-    ensures { IfOk result (λ yes. yes ≡ rup (map (λ (h : ClauseAt). h.lits) held.now ++ map (λ (l : Literal). l ∷ []) seen.now) lits.now) }
-{
-    let mut known = Vec::new(alloc);
-    for h in held {
-        known.push(Lits::from_slice(alloc, h.lits.as_slice())?)?;
-    }
-    for unit in seen {
-        known.push(Lits::from_slice(alloc, &[*unit])?)?;
-    }
-    is_rup(alloc, known.as_slice(), lits)
 }

@@ -22,6 +22,8 @@ pub(crate) struct RingState {
     pub(crate) waiting: Items<ClauseAt>,
     /// The listed units that it has seen.
     pub(crate) seen: Items<Lit>,
+    /// Their numbers, in the same order.
+    pub(crate) numbers: Items<u64>,
     /// How often it has shared a cell.
     pub(crate) shared: u64,
     /// What it put, in order.
@@ -43,6 +45,7 @@ impl RingState {
             making: Items::new(alloc),
             waiting: Items::new(alloc),
             seen: Items::new(alloc),
+            numbers: Items::new(alloc),
             shared: 0,
             puts: Items::new(alloc),
             ticket: false,
@@ -59,6 +62,7 @@ impl Copied for RingState {
             making: self.making.copied(alloc)?,
             waiting: self.waiting.copied(alloc)?,
             seen: self.seen.copied(alloc)?,
+            numbers: self.numbers.copied(alloc)?,
             shared: self.shared,
             puts: self.puts.copied(alloc)?,
             ticket: self.ticket,

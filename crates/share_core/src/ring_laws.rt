@@ -34,6 +34,7 @@ pub fn the_turn_is_a_rings()
 pub fn the_turn_keeps_the_log()
     ensures journal { (c : State) (r : ℕ) (es : List Event) → c.turn ≡ Some r → AreOthers r es → AllEnabled c es → (fold after c es).journal ≡ c.journal }
     ensures units { (c : State) (r : ℕ) (es : List Event) → c.turn ≡ Some r → AreOthers r es → AllEnabled c es → (fold after c es).units ≡ c.units }
+    ensures numbers { (c : State) (r : ℕ) (es : List Event) → c.turn ≡ Some r → AreOthers r es → AllEnabled c es → (fold after c es).numbers ≡ c.numbers }
     ensures turn { (c : State) (r : ℕ) (es : List Event) → c.turn ≡ Some r → AreOthers r es → AllEnabled c es → (fold after c es).turn ≡ Some r }
 {}
 
@@ -43,11 +44,14 @@ pub fn guards_stay_enabled()
         → IsEnabled c e → IsEnabled (fold after c es) e }
 {}
 
-/// The listed units, and those that a ring has seen, only grow; those seen are always the first listed.
+/// The listed units, and those that a ring has seen, only grow, and so do their numbers; those seen are always the first listed.
 pub fn units_grow()
     ensures listed { (c : State) (es : List Event) → (more : List Literal) × ((fold after c es).units ≡ c.units ++ more) }
     ensures seen { (c : State) (r : ℕ) (es : List Event) → (more : List Literal) × (((fold after c es).part r).seen ≡ (c.part r).seen ++ more) }
     ensures front { (c : State) (r : ℕ) → Sound c → (rest : List Literal) × (c.units ≡ (c.part r).seen ++ rest) }
+    ensures listed_numbers { (c : State) (es : List Event) → (more : List ℕ) × ((fold after c es).numbers ≡ c.numbers ++ more) }
+    ensures seen_numbers { (c : State) (r : ℕ) (es : List Event) → (more : List ℕ) × (((fold after c es).part r).numbers ≡ (c.part r).numbers ++ more) }
+    ensures front_numbers { (c : State) (r : ℕ) → Sound c → (rest : List ℕ) × (c.numbers ≡ (c.part r).numbers ++ rest) × (length (c.part r).numbers ≡ length (c.part r).seen) }
 {}
 
 /// The rings together learn no more clauses than the limit after the opening's journal, and exactly as many

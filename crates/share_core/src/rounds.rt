@@ -1,17 +1,16 @@
 //! The next round: what the ruler's lines become, and the core that is opened after them.
 //! The executable core, which the program never runs: it makes the definitions of specs/ run, for tests.
-ghost use Rattle.std.specs.Prelude.{◌≡◌, ◌≤◌, ◌<◌, ◌+◌, ◌==◌, ◌++◌, ◌∷◌, [], Bool, length, List, ℕ, map, IfOk, OnOk, true};
+ghost use Rattle.std.specs.Prelude.{◌≡◌, ◌≤◌, ◌+◌, ◌==◌, ◌++◌, length, List, ℕ, map, IfOk, OnOk};
 ghost use Rattle.std.specs.List.{list_any};
 ghost use Rattle.std.specs.Option.{option_map};
-ghost use Rattle.sat_words.specs.Literal.{Literal};
-ghost use Rattle.sat_words.specs.Clause.{same_set, clause_of};
-ghost use Rattle.sat_words.specs.declared.line.Line.TheVariants.{Del as DelLine};
+ghost use Rattle.sat_words.specs.Clause.{clause_of};
 ghost use Rattle.rup_model.specs.declared.journal.Entry.{Entry};
 ghost use Rattle.rup_model.specs.Journal.{Book, book_after, book, formula_clause, spelled};
-ghost use Rattle.share_core.specs.NextRound.{has_lits, is_spare, IsLeast, IsFound, IsEntryOf, AreEntriesOf, start_in, numbers_of};
+ghost use Rattle.share_core.specs.NextRound.{line_of, has_lits, is_spare, entry_of, AreEntriesOf, start_in, numbers_of};
 
-use crate::items::{Copied, Items};
+use crate::items::Items;
 use crate::journal::{adds_clause, includes, next_number};
+use crate::round_line::RoundLine;
 use crate::stored::ClauseAt;
 use rup_model::{Addition, ClauseNumbers, Entry, Kind, RULER_RING};
 use sat_words::{Clause, Line, Lit, Lits, MAX_ENTRIES};
@@ -91,7 +90,7 @@ fn clause_after(
 }
 
 /// The clause that is alive under the number after the journal.
-fn clause_under(
+pub(crate) fn clause_under(
     alloc: Global,
     clauses: &[Clause],
     journal: &[Entry],
@@ -122,7 +121,7 @@ fn has_lits(clause: &Option<Lits>, lits: &[Lit]) -> bool
 }
 
 /// Whether the number is none of those kept, and its clause is alive and has these literals.
-fn is_spare(
+pub(crate) fn is_spare(
     alloc: Global,
     clauses: &[Clause],
     journal: &[Entry],
@@ -140,67 +139,27 @@ fn is_spare(
     Ok(has_lits(&clause, lits))
 }
 
-/// The least number of a clause with these literals that is none of those kept, if there is one.
-pub(crate) fn find_spare(
-    alloc: Global,
-    clauses: &[Clause],
-    journal: &[Entry],
-    kept: &[u64],
-    lits: &[Lit],
-) -> Result<Option<u64>, AllocError>
-    requires { length journal.now ≤ MAX_ENTRIES }
-    ensures { IfOk result (IsFound (is_spare (book clauses.now journal.now) kept.now lits.now)) }
-{
-    let next = next_number(clauses, journal);
-    for number in 0..next {
-        if is_spare(alloc, clauses, journal, kept, lits, number)? {
-            return Ok(Some(number));
-        }
-    }
-    Ok(None)
-}
-
-/// The least number of a clause with these literals that is none of those kept.
-fn least_spare(
-    alloc: Global,
-    clauses: &[Clause],
-    journal: &[Entry],
-    kept: &[u64],
-    lits: &[Lit],
-) -> Result<u64, AllocError>
-    requires small { length journal.now ≤ MAX_ENTRIES }
-    requires some { (n : ℕ) × (is_spare (book clauses.now journal.now) kept.now lits.now n ≡ true) }
-    ensures { IfOk result (IsLeast (is_spare (book clauses.now journal.now) kept.now lits.now)) }
-{
-    let Some(number) = find_spare(alloc, clauses, journal, kept, lits)? else {
-        unreachable!()
-    };
-    Ok(number)
-}
-
 /// The ruler's entry of a line after the journal.
-pub(crate) fn entry_of(
+fn entry_of(
     alloc: Global,
     clauses: &[Clause],
     journal: &[Entry],
-    kept: &[u64],
-    line: &Line,
+    line: &RoundLine,
 ) -> Result<Entry, AllocError>
-    requires small { length journal.now ≤ MAX_ENTRIES }
-    requires some { (e : Entry) × IsEntryOf (book clauses.now journal.now) kept.now line.now e }
-    ensures { IfOk result (λ e. IsEntryOf (book clauses.now journal.now) kept.now line.now e) }
+    requires { length journal.now ≤ MAX_ENTRIES }
+    ensures { IfOk result (λ e. e ≡ entry_of (book clauses.now journal.now) line.now) }
 {
     match line {
-        Line::Add(lits) => Ok(Entry::Add(Addition {
+        RoundLine::Add { lits, hints } => Ok(Entry::Add(Addition {
             ring: RULER_RING,
             number: next_number(clauses, journal),
             lits: Lits::from_slice(alloc, lits.as_slice())?,
             kind: Kind::Ruler,
-            hints: ClauseNumbers::from_slice(alloc, &[])?,
+            hints: ClauseNumbers::from_slice(alloc, hints.as_slice())?,
         })),
-        Line::Del(lits) => Ok(Entry::Del {
+        RoundLine::Del { number, .. } => Ok(Entry::Del {
             ring: RULER_RING,
-            number: least_spare(alloc, clauses, journal, kept, lits.as_slice())?,
+            number: *number,
         }),
     }
 }
@@ -259,20 +218,18 @@ pub(crate) fn numbers_of(alloc: Global, start: &[(u64, u64)]) -> Result<Vec<u64>
 pub(crate) fn note_lines(
     alloc: Global,
     clauses: &[Clause],
-    kept: &[u64],
-    lines: &[Line],
+    lines: &[RoundLine],
     journal: &mut Items<Entry>,
     told: &mut Items<Line>,
 ) -> Result<(), AllocError>
-    requires small { length journal.old + length lines.now ≤ MAX_ENTRIES }
-    requires some { (E : List Entry) × AreEntriesOf clauses.now journal.old kept.now lines.now E }
-    ensures entries { (E : List Entry) → AreEntriesOf clauses.now journal.old kept.now lines.now E → OnOk result (journal.new ≡ journal.old ++ E) }
-    ensures told { OnOk result (told.new ≡ told.old ++ lines.now) }
+    requires { length journal.old + length lines.now ≤ MAX_ENTRIES }
+    ensures entries { (kept : List ℕ) (E : List Entry) → AreEntriesOf clauses.now journal.old kept lines.now E → OnOk result (journal.new ≡ journal.old ++ E) }
+    ensures told { OnOk result (told.new ≡ told.old ++ map line_of lines.now) }
 {
     for line in lines {
-        let entry = entry_of(alloc, clauses, journal.as_slice(), kept, line)?;
+        let entry = entry_of(alloc, clauses, journal.as_slice(), line)?;
         journal.push(entry)?;
-        told.push(line.copied(alloc)?)?;
+        told.push(line.line(alloc)?)?;
     }
     Ok(())
 }

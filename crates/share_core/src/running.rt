@@ -1,34 +1,28 @@
 // The executable core, which the program never runs: it makes the definitions of specs/ run, for tests.
-ghost use Rattle.std.specs.Prelude.{◌≡◌, ◌⊎◌, ◌<◌, ◌≤◌, ◌∷◌, [], ◌++◌, length, map, replicate, IfOk, OnErr, OnOk, List, ℕ, All, true};
-ghost use Rattle.std.specs.Option.{unwrap_or};
-ghost use Rattle.rup_model.specs.Journal.{formula_clause, lines as lines_of};
+ghost use Rattle.std.specs.Prelude.{◌≡◌, ◌⊎◌, ◌<◌, ◌≤◌, length, IfOk, OnErr, OnOk};
+ghost use Rattle.rup_model.specs.Journal.{lines as lines_of};
 ghost use Rattle.share_core.specs.State.{times_at, IsCoreOpening, opened, count_at, number_at, slot_of};
 ghost use Rattle.share_core.specs.Events.{after};
 ghost use Rattle.share_core.specs.Enabled.{IsEnabled};
-ghost use Rattle.share_core.specs.Machine.{data_of, state_of, Logged, Kept, has_at, no_ring, start_at, start_stored, core_opening};
-ghost use Rattle.share_core.specs.Guards.{is_enabled};
-ghost use Rattle.share_core.specs.NextRound.{NoneBuilt, IsInOrder, IsNextRound, MayBegin, next_opening};
-ghost use Rattle.rup_model.specs.declared.journal.Entry.{Entry};
+ghost use Rattle.share_core.specs.Machine.{data_of, state_of, Logged, Kept, has_at, core_opening};
 ghost use Rattle.share_core.specs.Steps.{Steps, and_then, Runs};
 
 use crate::cells::{count_of, number_of};
 use crate::event::{Event, Stop};
-use crate::fitting::may_begin;
 use crate::items::Items;
+use crate::openings::{opened, start_clauses};
 use crate::progress::{Origin, Progress};
-use crate::ring::{RingState, has_at, times_of};
-use crate::rounds::{note_lines, numbers_of, starts_in};
-use crate::stored::{Cell, ClauseAt, StoredCell};
-use rup_model::{ClauseNumbers, Entry, Round};
-use sat_words::{Clause, Formula, Line, Lit, Lits};
+use crate::ring::{has_at, times_of};
+use rup_model::Entry;
+use sat_words::{Formula, Line, Lit};
 use std::alloc::{AllocError, Global};
 use std::marker::Model;
 
 /// The machine over events, by plain lists: the state that a list of events leaves.
 #[derive(Drop)]
 pub struct Core {
-    origin: Origin,
-    progress: Progress,
+    pub(crate) origin: Origin,
+    pub(crate) progress: Progress,
 }
 
 impl Model for Core {
@@ -73,12 +67,26 @@ impl Progress {
                 ring,
                 kind,
                 lits,
+                hints,
                 address,
-            } => self.add_clause(alloc, origin, *ring, *kind, lits.as_slice(), *address),
-            Event::AddUnit { ring, kind, lit } => {
-                self.add_unit(alloc, origin, *ring, *kind, *lit)
+            } => self.add_clause(
+                alloc,
+                origin,
+                *ring,
+                *kind,
+                lits.as_slice(),
+                hints.as_slice(),
+                *address,
+            ),
+            Event::AddUnit {
+                ring,
+                kind,
+                lit,
+                hints,
+            } => self.add_unit(alloc, origin, *ring, *kind, *lit, hints.as_slice()),
+            Event::AddEmpty { ring, hints } => {
+                self.add_empty(alloc, origin, *ring, hints.as_slice())
             }
-            Event::AddEmpty { ring } => self.add_empty(alloc, origin, *ring),
             Event::Reduce { ring } => self.reduce(origin, *ring),
             Event::OpenCell { ring, address } => self.open_cell(alloc, origin, *ring, *address),
             Event::Read { .. } => Ok(()),
@@ -98,7 +106,7 @@ impl Progress {
                 class,
                 place,
             } => self.get(alloc, origin, *ring, *from, *class, *place),
-            Event::Publish { ring, lit } => self.publish(origin, *ring, *lit),
+            Event::Publish { ring, lit, number } => self.publish(origin, *ring, *lit, *number),
             Event::See { ring } => self.see(origin, *ring),
             Event::Stop { ring, kind } => {
                 self.set_stop(origin, *ring, *kind);
@@ -149,154 +157,23 @@ fn and_then(first: Step, second: Step) -> Step
     }
 }
 
-/// The literals of the formula's clause with this number, none if there is no such clause.
-fn lits_under(alloc: Global, clauses: &[Clause], number: u64) -> Result<Lits, AllocError>
-    ensures { IfOk result (λ lits. lits ≡ unwrap_or (formula_clause clauses.now number) []) }
-{
-    if number == 0 || number > clauses.len() as u64 {
-        return Lits::from_slice(alloc, &[]);
-    }
-    let index = (number - 1) as usize;
-    Lits::from_slice(alloc, clauses[index].lits())
-}
-
-/// The clause with this number, at an address.
-fn start_clause(
-    alloc: Global,
-    clauses: &[Clause],
-    address: u64,
-    number: u64,
-) -> Result<ClauseAt, AllocError>
-    ensures { IfOk result (λ h. h ≡ record { address = address; number = number; lits = unwrap_or (formula_clause clauses.now number) [] }) }
-{
-    Ok(ClauseAt {
-        address,
-        number,
-        lits: lits_under(alloc, clauses, number)?,
-    })
-}
-
-fn start_clauses(
-    alloc: Global,
-    clauses: &[Clause],
-    start: &[(u64, u64)],
-) -> Result<Items<ClauseAt>, AllocError>
-    ensures { IfOk result (λ hs. hs ≡ map (start_at clauses.now) start.now) }
-{
-    let mut starts = Items::new(alloc);
-    for pair in start {
-        starts.push(start_clause(alloc, clauses, pair.0, pair.1)?)?;
-    }
-    Ok(starts)
-}
-
-fn start_cells(
-    alloc: Global,
-    starts: &[ClauseAt],
-    rings: u32,
-) -> Result<Vec<StoredCell>, AllocError>
-    ensures { IfOk result (λ cells. cells.items ≡ map (start_stored rings) starts.now) }
-{
-    let mut cells = Vec::new(alloc);
-    for s in starts {
-        cells.push(StoredCell {
-            address: s.address,
-            cell: Cell {
-                lits: Lits::from_slice(alloc, s.lits.as_slice())?,
-                number: s.number,
-                count: rings as u64,
-                maker: None,
-            },
-        })?;
-    }
-    Ok(cells)
-}
-
-fn blank_rings(alloc: Global, rings: u32) -> Result<Vec<RingState>, AllocError>
-    ensures { IfOk result (λ all. all.items ≡ replicate rings no_ring) }
-{
-    let mut all = Vec::new(alloc);
-    for _ in 0..rings {
-        all.push(RingState::new(alloc))?;
-    }
-    Ok(all)
-}
-
-fn empty_slots(alloc: Global, count: usize) -> Result<Vec<u64>, AllocError>
-    ensures { IfOk result (λ all. all.items ≡ replicate count 0) }
-{
-    let mut all = Vec::new(alloc);
-    all.resize(count, 0)?;
-    Ok(all)
-}
-
-fn listed(alloc: Global, units: &[Lit]) -> Result<Items<Lit>, AllocError>
-    ensures { IfOk result (λ all. all ≡ units.now) }
-{
-    let mut all = Items::new(alloc);
-    all.extend(alloc, units)?;
-    Ok(all)
-}
-
-/// The machine before the first event after the journal, whose lines are these.
-fn opened(
-    alloc: Global,
-    formula: Formula,
-    journal: Items<Entry>,
-    lines: Items<Line>,
-    starts: Items<ClauseAt>,
-    units: &[Lit],
-    rings: u32,
-    depth: u32,
-    limit: u64,
-) -> Result<Core, AllocError>
-    requires opens { IsCoreOpening (record { formula = formula.clauses; rings = rings; depth = depth; journal = journal; starts = starts; units = units.now; limit = limit }) }
-    requires told { lines ≡ lines_of formula.clauses journal }
-    ensures { IfOk result (λ core. state_of core ≡ opened (record { formula = formula.clauses; rings = rings; depth = depth; journal = journal; starts = starts; units = units.now; limit = limit })) }
-{
-    let cells = start_cells(alloc, starts.as_slice(), rings)?;
-    let progress = Progress {
-        journal: journal.copied(alloc)?,
-        lines,
-        cells,
-        rings: blank_rings(alloc, rings)?,
-        slots: empty_slots(
-            alloc,
-            4 * (rings as usize * rings as usize) * depth as usize,
-        )?,
-        units: listed(alloc, units)?,
-        turn: None,
-        stop: None,
-        drawn: 0,
-    };
-    Ok(Core {
-        origin: Origin {
-            formula,
-            journal,
-            starts,
-            units: listed(alloc, units)?,
-            depth,
-            limit,
-        },
-        progress,
-    })
-}
-
 impl Core {
     /// The machine before the first event. Start clauses are given by their addresses and their numbers in the formula,
-    /// from 1. The depth is how many slots there are for each two rings and class. The limit is how many clauses the rings
-    /// may learn together, each with a ticket that it draws.
+    /// from 1, and units with the numbers of their clauses. The depth is how many slots there are for each two rings and
+    /// class. The limit is how many clauses the rings may learn together, each with a ticket that it draws. If the log is
+    /// hinted, each addition has hints.
     pub fn new(
         alloc: Global,
         formula: Formula,
         start: &[(u64, u64)],
-        units: &[Lit],
+        units: &[(Lit, u64)],
         rings: u32,
         depth: u32,
         limit: u64,
+        hinted: bool,
     ) -> Result<Core, AllocError>
-        requires { IsCoreOpening (core_opening formula.clauses start.now units.now rings depth limit) }
-        ensures { IfOk result (λ core. state_of core ≡ opened (core_opening formula.clauses start.now units.now rings depth limit)) }
+        requires { IsCoreOpening (core_opening formula.clauses start.now units.now rings depth limit hinted) }
+        ensures { IfOk result (λ core. state_of core ≡ opened (core_opening formula.clauses start.now units.now rings depth limit hinted)) }
     {
         let starts = start_clauses(alloc, formula.clauses(), start)?;
         opened(
@@ -309,80 +186,7 @@ impl Core {
             rings,
             depth,
             limit,
-        )
-    }
-
-    /// Whether the next round may begin with these. It may where the answer is no, if a line is an addition.
-    pub fn may_begin(
-        &self,
-        alloc: Global,
-        lines: &[Line],
-        start: &[(u64, u64)],
-        units: &[Lit],
-        limit: u64,
-    ) -> Result<bool, AllocError>
-        ensures { IfOk result (λ yes. yes ≡ true → MayBegin (state_of self.now) lines.now start.now units.now limit) }
-    {
-        may_begin(
-            alloc,
-            &self.origin,
-            &self.progress,
-            lines,
-            start,
-            units,
-            limit,
-        )
-    }
-
-    /// The machine before the first event of the next round. The ruler's lines are added to the log. Start clauses are given
-    /// by their addresses and their numbers, and are from then on spelled in the order of `Clause`. Nothing is left of the
-    /// cells, slots, listed units, tickets and stop; there are as many rings and slots. After an error nothing is left.
-    pub fn next_round(
-        self,
-        alloc: Global,
-        lines: &[Line],
-        start: &[(u64, u64)],
-        units: &[Lit],
-        limit: u64,
-    ) -> Result<Core, AllocError>
-        requires built { NoneBuilt (state_of self) }
-        requires ordered { All IsInOrder lines.now }
-        requires opens { (E : List Entry) × IsNextRound (state_of self) lines.now start.now units.now limit E }
-        ensures opened { (E : List Entry) → IsNextRound (state_of self) lines.now start.now units.now limit E → IfOk result (λ core. state_of core ≡ opened (next_opening (state_of self) E start.now units.now limit)) }
-        ensures told { IfOk result (λ core. lines_of core.formula core.journal ≡ lines_of self.formula self.journal ++ lines.now) }
-    {
-        let Core { origin, progress } = self;
-        let Origin { formula, depth, .. } = origin;
-        let Progress {
-            mut journal,
-            lines: mut told,
-            rings,
-            ..
-        } = progress;
-        let kept = numbers_of(alloc, start)?;
-        note_lines(
-            alloc,
-            formula.clauses(),
-            kept.as_slice(),
-            lines,
-            &mut journal,
-            &mut told,
-        )?;
-        journal.push(Entry::Round(Round {
-            starts: ClauseNumbers::from_slice(alloc, kept.as_slice())?,
-            units: Lits::from_slice(alloc, units)?,
-        }))?;
-        let starts = starts_in(alloc, formula.clauses(), journal.as_slice(), start)?;
-        opened(
-            alloc,
-            formula,
-            journal,
-            told,
-            starts,
-            units,
-            rings.len() as u32,
-            depth,
-            limit,
+            hinted,
         )
     }
 
@@ -438,6 +242,13 @@ impl Core {
         ensures { result.now ≡ (state_of self.now).units }
     {
         self.progress.units.as_slice()
+    }
+
+    /// Their numbers, in the same order.
+    pub fn unit_numbers(&self) -> &[u64]
+        ensures { result.now ≡ (state_of self.now).numbers }
+    {
+        self.progress.numbers.as_slice()
     }
 
     /// How many of the listed units the ring has seen.
@@ -499,6 +310,13 @@ impl Core {
         let all = next.run(alloc, &self.origin, events)?;
         self.progress = next;
         Ok(all)
+    }
+
+    /// The journal, in order.
+    pub fn journal(&self) -> &[Entry]
+        ensures { result.now ≡ (state_of self.now).journal }
+    {
+        self.progress.journal.as_slice()
     }
 
     /// The lines of the log, in order.

@@ -79,6 +79,12 @@ impl Copied for PutNote {
     }
 }
 
+impl Copied for u64 {
+    fn copied(&self, _alloc: Global) -> Result<u64, AllocError> {
+        Ok(*self)
+    }
+}
+
 impl Copied for Lit {
     fn copied(&self, _alloc: Global) -> Result<Lit, AllocError> {
         Ok(*self)

@@ -67,8 +67,8 @@ module _ {S : Type 0} (stands : S → BookOrigin → Layout → CoreOpening → 
       (store_words l c st a x is.1 r is.2 (a + i) n lo hi h.glue s.words h.words) (frame_of r c c h.glue (stays_still c) (λ _ _. refl) (λ _ _. refl)) (λ _. refl) h.home building.0 refl (ap (on_first (store_part (a + i) n)) building.0) refl refl refl refl refl
       (stops_same c.stop v (after_store (a + i) n v) (store_part (a + i) n p) building.0 (ap (on_first (store_part (a + i) n)) building.0) refl refl (h.each id v at).stops)
       (record { ring = part.ring; part = part.part; glues = part.glues; made_glues = part.made_glues; turn = part.turn; listed = part.listed; whole = part.whole; refused = part.refused; set = part.set; ended_is = part.ended_is; given = part.given })
-      (λ y ne z. (store_else l c st a x is.1 r is.2 (a + i) n lo hi s.words (ring_of y) y.stored ne z.0, unit_kept l c c s.words (a + i) n y refl refl (λ k' lt e. omega arith) z.1))
-      (store_own l c st a x is.1 r is.2 (a + i) n lo hi s.words p.stored (omega arith) own.0, unit_kept l c c s.words (a + i) n p refl refl (λ k' lt e. omega arith) own.1)
+      (λ y ne z. (store_else l c st a x is.1 r is.2 (a + i) n lo hi s.words (ring_of y) y.stored ne z.0, unit_kept l c c s.words (a + i) n y refl refl (λ k' lt. ((λ e. omega arith), (λ e. omega arith))) z.1))
+      (store_own l c st a x is.1 r is.2 (a + i) n lo hi s.words p.stored (omega arith) own.0, unit_kept l c c s.words (a + i) n p refl refl (λ k' lt. ((λ e. omega arith), (λ e. omega arith))) own.1)
 
   pub stores : (slots id : ℕ) (me : Me (Option S) View) (a i n : ℕ) → is_ready me.0.stage ≡ true → IsBuilding a me.0 → 0 < i → i < words_for (length (making_of a me.0).lits)
       → Allows (Shown stands k) slots id me (a + i) (λ _. n) (λ _. stored (step slots (a + i) n 0 maybe.none) me n)
@@ -109,6 +109,7 @@ module _ {S : Type 0} (stands : S → BookOrigin → Layout → CoreOpening → 
       let new : opened_part (clause_in a p.core.making) p.core ≡ q' = (λ i. opened_part (clause i) (part.part i)) in
       let size : words_for (length x.lits) ≡ words_for (length (making_of a v).lits) = ap (λ (ks : List Literal). words_for (length ks)) (sym lits) in
       let lo : first_cell l ≤ a = (st.inside a x is.1).0 in
+      let hi = (st.inside a x is.1).1 in
       moved stands l s h d h.glue id v (after_open a v) (open_part a p) (set s.words a 1) s.homes at
       (left_one c.opening c (OpenCell r a) h.left (part.ring, making))
       (places_recounted l c st a 1 x is.1 r q' h.places)
@@ -129,8 +130,8 @@ module _ {S : Type 0} (stands : S → BookOrigin → Layout → CoreOpening → 
         ended_is = part.ended_is;
         given = given_same c d r p.gave refl stays.slots stays.clauses part.given;
       })
-      (λ y ne z. (recount_stored l c st a 1 x is.1 r q' s.words (ring_of y) y.stored (λ y' e mk. ne (some_same (ring_of y) r (sym mk ∙ ap (λ (z' : Cell). z'.maker) (some_same y' x (sym e ∙ is.1)) ∙ is.2))) z.0, unit_kept l c d s.words a 1 y refl refl (λ k' lt e. omega arith) z.1))
-      (subst (λ (n : ℕ). IsStored d (set s.words a 1) r (stored_else a n p.stored)) size (open_stored l c st a 1 x is.1 r q' s.words r p.stored own.0), unit_kept l c d s.words a 1 p refl refl (λ k' lt e. omega arith) own.1)
+      (λ y ne z. (recount_stored l c st a 1 x is.1 r q' s.words (ring_of y) y.stored (λ y' e mk. ne (some_same (ring_of y) r (sym mk ∙ ap (λ (z' : Cell). z'.maker) (some_same y' x (sym e ∙ is.1)) ∙ is.2))) z.0, unit_kept l c d s.words a 1 y refl refl (λ k' lt. ((λ e. omega arith), (λ e. omega arith))) z.1))
+      (subst (λ (n : ℕ). IsStored d (set s.words a 1) r (stored_else a n p.stored)) size (open_stored l c st a 1 x is.1 r q' s.words r p.stored own.0), unit_kept l c d s.words a 1 p refl refl (λ k' lt. ((λ e. omega arith), (λ e. omega arith))) own.1)
 
   pub opens_cell : (slots id : ℕ) (me : Me (Option S) View) (a : ℕ) → is_ready me.0.stage ≡ true → IsBuilding a me.0 → IsBuilt a me.0
       → Allows (Shown stands k) slots id me a (λ _. 1) (λ _. opened_cell (step slots a 1 0 maybe.none) me 1)

@@ -1,17 +1,19 @@
 -- The words of cells are read back.
-use Rattle.std.proofs.Common.{◌≡◌, ◌≢◌, ℕ, zero, suc, ◌+◌, ◌*◌, ◌/◌, ◌%◌, ◌^◌, ◌<◌, ◌≤◌, List, [], ◌∷◌, map, length, All, refl, sym, ap, ◌∙◌, subst, arith, Some, None}
-use Rattle.std.specs.Prelude.{slice_index, slice_index_or}
+use Rattle.std.proofs.Common.{◌≡◌, ℕ, zero, suc, ◌+◌, ◌/◌, ◌%◌, ◌^◌, ◌<◌, ◌≤◌, List, [], ◌∷◌, length, refl, sym, ap, ◌∙◌, arith, Some}
+use Rattle.std.specs.Prelude.{slice_index}
 use mathlib.Core.Option.{some, some-injective, some-ne-none}
 use lib.ListN.{get_elem?}
-use Rattle.sat_words.specs.Literal.{Literal, code_of}
+use Rattle.sat_words.specs.Literal.{Literal}
 use Rattle.sat_words.specs.Clause.{clause_of}
-use Rattle.clause_cell.specs.Packing.{words_for, pair_of, half}
+use Rattle.clause_cell.specs.Packing.{words_for, half}
 use Rattle.clause_cell.proofs.Packed.{low_half, high_half}
+use Rattle.rup_model.specs.Journal.{book}
 use Rattle.share_core.specs.declared.stored.Cell.{Cell}
 use Rattle.share_core.specs.State.{State}
+use Rattle.share_core.specs.Events.{listed_number}
+use Rattle.share_core.proofs.Pairs.{paired_long}
 use Rattle.share_rule.specs.declared.Layout.{Layout}
-use Rattle.share_rule.specs.declared.rests.Rest.{Rest}
-use Rattle.share_rule.specs.Layout.{first_cell, cells_end, table_words, unit_at, InVars}
+use Rattle.share_rule.specs.Layout.{unit_at, number_at}
 use Rattle.share_rule.specs.Cells.{Spells}
 use Rattle.share_rule.specs.Rests.{rest_of, IsAtEnd, HasLits}
 use Rattle.share_rule.proofs.Decoding.{Decoded, decoded, decoded_unit}
@@ -66,6 +68,16 @@ pub unit_read : (l : Layout) (c : State) (glue : ℕ → ℕ) (ws : List ℕ) (p
 unit_read l c glue ws place listed word e listed_is lt is =
     let all = e.words.listed_is in
     decoded_unit l c.units place word e.places.small e.places.units (omega arith) (is ∙ e.words.unit_is place (omega arith))
+
+-- its number is read
+pub number_read : (l : Layout) (c : State) (glue : ℕ → ℕ) (ws : List ℕ) (place listed word : ℕ) → IsAtEnd l c glue ws → listed ≡ slice_index ws 2 → place < listed → word ≡ slice_index ws (number_at l place) → word ≡ listed_number c.numbers place
+number_read l c glue ws place listed word e listed_is lt is =
+    let all = e.words.listed_is in
+    is ∙ e.words.number_is place (omega arith)
+
+-- there are as many numbers as units
+pub numbers_long : (l : Layout) (c : State) (glue : ℕ → ℕ) (ws : List ℕ) → IsAtEnd l c glue ws → length c.numbers ≡ length c.units
+numbers_long l c glue ws e = paired_long (book c.opening.formula c.journal) c.units c.numbers e.sound.units.paired
 
 -- a clause has not too many literals
 pub few_lits : (l : Layout) (c : State) (glue : ℕ → ℕ) (ws : List ℕ) (a : ℕ) (x : Cell) → IsAtEnd l c glue ws → c.cell a ≡ Some x → length x.lits ≤ 2 ^ 31

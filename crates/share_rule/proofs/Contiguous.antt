@@ -1,5 +1,5 @@
 -- Start clauses lie one after the other.
-use Rattle.std.proofs.Common.{◌≡◌, ◌≢◌, ◌⊎◌, ℕ, zero, suc, ◌+◌, ◌-◌, ◌^◌, ◌<◌, ◌≤◌, ◌==◌, true, false, List, [], ◌∷◌, ◌++◌, map, length, fold, drop, All, refl, sym, ap, ◌∙◌, subst, ⊎_elim, inl, inr, arith, eq-eqb, ne_eqb, true≢false, append-nil, append_assoc, get_or, take, Option, Some, None}
+use Rattle.std.proofs.Common.{◌≡◌, Bool, ◌≢◌, ◌⊎◌, ℕ, zero, suc, ◌+◌, ◌-◌, ◌^◌, ◌<◌, ◌≤◌, ◌==◌, true, false, List, [], ◌∷◌, ◌++◌, map, length, fold, drop, All, refl, sym, ap, ◌∙◌, subst, ⊎_elim, inl, inr, arith, eq-eqb, ne_eqb, true≢false, append-nil, append_assoc, get_or, take, Option, Some, None}
 use Rattle.std.specs.Prelude.{⊤, nat_le, nat_eq, if◌then◌else◌}
 use Rattle.std.specs.List.{IsDistinct, AllByRecursion}
 use Rattle.std.proofs.lemmas.Bool.Decides.{leb_tells, eqb_tells}
@@ -23,7 +23,7 @@ use Rattle.rup_model.proofs.ProgramOpening.{All_from_In}
 use Rattle.share_core.specs.declared.part.CoreOpening.{CoreOpening}
 use Rattle.share_core.specs.declared.stored.ClauseAt.{ClauseAt}
 use Rattle.share_core.specs.declared.stored.Cell.{Cell}
-use Rattle.share_core.specs.State.{IsCoreOpening, start_cell, opened, times_at}
+use Rattle.share_core.specs.State.{IsCoreOpening, start_cell, opened, times_at, unit_lits}
 use Rattle.share_core.proofs.Counting.{some_same, none_some}
 use Rattle.share_rule.specs.declared.Layout.{Layout}
 use Rattle.share_rule.specs.Layout.{first_cell, table_words, InVars}
@@ -271,24 +271,25 @@ laid_all l ss i low ws holes cells le h =
 pub opens_a_table : (F : List (List Literal)) (o : Opening) → IsOpening F o → OpensAfter F o
 opens_a_table F o h = record { fits = h.rulers_part.fits; accepted = h.rulers_part.accepted; going = h.rulers_part.going; starts = h.starts; numbers = h.numbers; told = h.told; distinct = h.distinct }
 
-module _ (F : List (List Literal)) (l : Layout) (J : List Entry) (ss : List (ℕ × List Literal)) (us : List Literal) (may : MayBegin F l J ss us) where
+module _ (F : List (List Literal)) (l : Layout) (hinted : Bool) (J : List Entry) (ss : List (ℕ × List Literal)) (us : List (Literal × ℕ)) (may : MayBegin F l J ss us) where
   start : CoreOpening
-  start = begun_with F l J ss us
+  start = begun_with F l hinted J ss us
 
   small_table : table_words l ≤ 2 ^ 63
   small_table = let q = few_words l may.few_rings may.few_vars may.few_words in omega arith
 
   -- these parts make an opening
-  pub begun_opens : IsCoreOpening (begun_with F l J ss us)
+  pub begun_opens : IsCoreOpening (begun_with F l hinted J ss us)
   begun_opens = record {
     some_ring = may.some_ring;
     few_rings = may.few_rings;
     some_slot = may.some_slot;
     few_slots = may.few_slots;
-    opens = subst (λ starts. OpensAfter F (record { journal = J; starts = starts; units = us })) (sym (same_starts (first_cell l) ss)) may.opens;
+    opens = subst (λ starts. OpensAfter F (record { journal = J; starts = starts; units = unit_lits us })) (sym (same_starts (first_cell l) ss)) may.opens;
     room = may.few_entries;
     placed = All_from_In (λ s. s.address ≢ 0) (starts_at (first_cell l) ss) (λ h i e. let low = (start_vars l ss (first_cell l) may.starts h i).0 in omega arith);
     apart = once ss (first_cell l);
+    paired = may.paired;
     limited = may.limited;
   }
     where
@@ -297,17 +298,17 @@ module _ (F : List (List Literal)) (l : Layout) (J : List Entry) (ss : List (ℕ
       same_starts base (s ∷ ks) = ap (λ rest. record { number = s.0; lits = s.1 } ∷ rest) (same_starts (base + words_for (length s.1)) ks)
 
   -- nothing has been added since
-  pub begun_room : room l (begun_with F l J ss us) J ≡ start_room l (starts_at (first_cell l) ss)
+  pub begun_room : room l (begun_with F l hinted J ss us) J ≡ start_room l (starts_at (first_cell l) ss)
   begun_room = ap (fold _ (start_room l (starts_at (first_cell l) ss))) (drop_all (length J) J (omega arith))
 
-  pub begun_places : total ss ≤ l.words → Places l (opened (begun_with F l J ss us))
+  pub begun_places : total ss ≤ l.words → Places l (opened (begun_with F l hinted J ss us))
   begun_places le = record {
     rings = refl;
     depth = refl;
     limit = refl;
     small = may.few_vars;
     words = λ a x e. let s = cell_start l.rings (starts_at (first_cell l) ss) a x e in
-        subst (λ (y : ℕ × Cell). (room l (begun_with F l J ss us) J).words y.1.number ≡ Some (range y.0 (words_for (length y.1.lits)))) (λ i. (s.2 i, s.3 i))
+        subst (λ (y : ℕ × Cell). (room l (begun_with F l hinted J ss us) J).words y.1.number ≡ Some (range y.0 (words_for (length y.1.lits)))) (λ i. (s.2 i, s.3 i))
         (ap (λ (m : Room). m.words s.0.number) begun_room ∙ placed_words ss (record { holes = whole (first_cell l) l.words; words = λ _. None }) (first_cell l) l.words refl le (subst (IsDistinct nat_eq) (numbers ss) may.opens.numbers) s.0 s.1);
     only = λ n r h.
         (let t = words_from ss (record { holes = whole (first_cell l) l.words; words = λ _. None }) (first_cell l) l.words refl le n r (ap (λ (m : Room). m.words n) (sym begun_room) ∙ h) in
@@ -319,8 +320,8 @@ module _ (F : List (List Literal)) (l : Layout) (J : List Entry) (ss : List (ℕ
     starts = All_from_In (λ s. InVars l s.lits) (starts_at (first_cell l) ss) (λ h i. (start_vars l ss (first_cell l) may.starts h i).1);
     entries = subst (λ (K : List Entry). All (InVars l) (added K)) (sym (drop_all (length J) J (omega arith))) (λ i k lt. absurd (omega arith));
     units = may.units;
-    few = few_distinct l.vars us may.opens.distinct may.units;
-    first = ([], sym (append-nil us));
+    few = few_distinct l.vars (unit_lits us) may.opens.distinct may.units;
+    first = ([], sym (append-nil (unit_lits us)));
   }
     where
       numbers : (ks : List (ℕ × List Literal)) → map (λ (s : Start). s.number) (map (λ (s : ℕ × List Literal). record { number = s.0; lits = s.1 }) ks) ≡ map (λ (s : ℕ × List Literal). s.0) ks

@@ -21,7 +21,7 @@ use Rattle.share_rule.specs.declared.Layout.{Layout}
 use Rattle.share_rule.specs.declared.rule.Key.{Key}
 use Rattle.share_rule.specs.declared.view.RingPart.{RingPart}
 use Rattle.share_rule.specs.declared.view.View.{View}
-use Rattle.share_rule.specs.Layout.{grant_at, unit_at, slot_at, ticket_at}
+use Rattle.share_rule.specs.Layout.{grant_at, unit_at, number_at, slot_at, ticket_at}
 use Rattle.share_rule.specs.Views.{only, is_ready}
 use Rattle.share_rule.specs.Steps.{on_first}
 use Rattle.share_rule.specs.Tickets.{MayDraw, draw_part, after_draw}
@@ -53,6 +53,7 @@ ticket_words l c glue ws r p st w =
       count_is = λ b y e o. let q = (st.inside b y e).1 in get_or-set_other ws at b n 0 (λ z. omega arith) ∙ w.count_is b y e o;
       cell_is = λ b y e o. let q = (st.inside b y e).1 in spells_else ws at n b y.number (glue y.number) y.lits (λ i some it z. omega arith) (w.cell_is b y e o);
       ticket_is = get_or-set_same ws at n 0 in_ws;
+      number_is = λ k kt. get_or-set_other ws at (number_at l k) n 0 (λ e. omega arith) ∙ w.number_is k kt;
     }
 
 -- what rings stored stays
@@ -62,7 +63,7 @@ ticket_out l c d ws n p st same turn units z = (
     words = λ v m e. let b = z.0.inside v m e in let hi = b.5 in let at = (st.inside b.0 b.1 b.2).1 in get_or-set_other ws (ticket_at l) v n 0 (λ q. omega arith) ∙ z.0.words v m e;
     inside = λ v m e. let b = z.0.inside v m e in (b.0, b.1, same b.0 ∙ b.2, b.3, b.4, b.5);
   },
-  unit_kept l c d ws (ticket_at l) n p turn units (λ k lt e. omega arith) z.1,
+  unit_kept l c d ws (ticket_at l) n p turn units (λ k lt. ((λ e. omega arith), (λ e. omega arith))) z.1,
 )
 
 -- the number drawn never runs over

@@ -160,8 +160,8 @@ module _ {S : Type 0} (stands : S → BookOrigin → Layout → CoreOpening → 
               ended_is = part.ended_is;
               given = given;
             })
-            (λ y _ z. subst (λ (u : ℕ). IsOut l d (set s.words u a) y) (sym word) (low_out l c d s.words (slot_at l i) a y st low (λ _. refl) refl refl (λ k' lt' e. omega arith) z))
-            (subst (λ (u : ℕ). IsOut l d (set s.words u a) (gave_part note x g p)) (sym word) (low_out l c d s.words (slot_at l i) a (gave_part note x g p) st low (λ _. refl) refl refl (λ k' lt' e. omega arith) (h.stored id v 0 p at (ap (λ ps. get_elem? ps 0) holding.0)))),
+            (λ y _ z. subst (λ (u : ℕ). IsOut l d (set s.words u a) y) (sym word) (low_out l c d s.words (slot_at l i) a y st low (λ _. refl) refl refl (λ k' lt'. ((λ e. omega arith), (λ e. omega arith))) z))
+            (subst (λ (u : ℕ). IsOut l d (set s.words u a) (gave_part note x g p)) (sym word) (low_out l c d s.words (slot_at l i) a (gave_part note x g p) st low (λ _. refl) refl refl (λ k' lt'. ((λ e. omega arith), (λ e. omega arith))) (h.stored id v 0 p at (ap (λ ps. get_elem? ps 0) holding.0)))),
       )
 
   pub puts : (slots id : ℕ) (me : Me (Option S) View) (to class place a : ℕ) → is_ready me.0.stage ≡ true → IsHolding a me.0 → IsOther to me.0 → class < 4 → place < me.0.opening.depth
@@ -233,8 +233,8 @@ module _ {S : Type 0} (stands : S → BookOrigin → Layout → CoreOpening → 
               ended_is = part.ended_is;
               given = exchanged_given c r i 0 q' r p.gave part.given (λ _ _ _ _ _ _ _ nz. absurd (nz refl));
             })
-            (λ y _ z. subst (λ (u : ℕ). IsOut l d (set s.words u 0) y) (sym word) (low_out l c d s.words (slot_at l i) 0 y st low (λ _. refl) refl refl (λ k' lt' e. omega arith) z))
-            (subst (λ (u : ℕ). IsOut l d (set s.words u 0) (took_part from class place x g p)) (sym word) (low_out l c d s.words (slot_at l i) 0 (took_part from class place x g p) st low (λ _. refl) refl refl (λ k' lt' e. omega arith) (h.stored id v 0 p at (ap (λ ps. get_elem? ps 0) other.0)))),
+            (λ y _ z. subst (λ (u : ℕ). IsOut l d (set s.words u 0) y) (sym word) (low_out l c d s.words (slot_at l i) 0 y st low (λ _. refl) refl refl (λ k' lt'. ((λ e. omega arith), (λ e. omega arith))) z))
+            (subst (λ (u : ℕ). IsOut l d (set s.words u 0) (took_part from class place x g p)) (sym word) (low_out l c d s.words (slot_at l i) 0 (took_part from class place x g p) st low (λ _. refl) refl refl (λ k' lt'. ((λ e. omega arith), (λ e. omega arith))) (h.stored id v 0 p at (ap (λ ps. get_elem? ps 0) other.0)))),
       )
 
   pub gets : (slots id : ℕ) (me : Me (Option S) View) (from class place : ℕ) → is_ready me.0.stage ≡ true → IsOther from me.0 → (only me.0).core.ring < me.0.opening.rings → class < 4 → place < me.0.opening.depth

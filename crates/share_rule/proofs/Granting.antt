@@ -37,7 +37,7 @@ use Rattle.share_rule.specs.Told.{Knows, took_grant}
 use Rattle.share_core.proofs.Leaving.{left_sound, left_one}
 use Rattle.share_rule.proofs.Lists.{times_without, both_true, not_true, no_test, small_test, start_glue}
 use Rattle.share_rule.proofs.Parts.{is_open, standing_of}
-use Rattle.share_rule.proofs.Words.{grant_words, unit_kept, grant_stored}
+use Rattle.share_rule.proofs.Words.{grant_words, unit_kept, none_out, grant_stored}
 use Rattle.share_rule.proofs.Moves.{part_owner, Frame, frame_of, turn_has, part_else, acted}
 use Rattle.share_rule.proofs.Steps.{told}
 use Rattle.share_rule.proofs.Telling.{told_more, still_told}
@@ -130,15 +130,15 @@ module _ {S : Type 0} (stands : S → BookOrigin → Layout → CoreOpening → 
         parts = λ i y e. each_part c d h.glue v sound frame (λ j z q. (f.parts j z q, (part_owner l c h.glue h.owner id v j z f q).2)) first closed i y e;
       })
       (λ _. h.origins id v at ready)
-      (λ y _ z. (grant_stored l c d s.words r (ring_of y) y.stored (standing_of stands l s h) in_layout (λ _. refl) z.0, unit_kept l c d s.words (grant_at r) 0 y refl refl (λ k' lt e. omega arith) z.1))
-      (λ i y e. stored_part l d (set s.words (grant_at r) 0) v (λ j z q. let out = h.stored id v j z at q in (grant_stored l c d s.words r (ring_of z) z.stored (standing_of stands l s h) in_layout (λ _. refl) out.0, unit_kept l c d s.words (grant_at r) 0 z refl refl (λ k' lt e. omega arith) out.1)) i y e)
+      (λ y _ z. (grant_stored l c d s.words r (ring_of y) y.stored (standing_of stands l s h) in_layout (λ _. refl) z.0, unit_kept l c d s.words (grant_at r) 0 y refl refl (λ k' lt. ((λ e. omega arith), (λ e. omega arith))) z.1))
+      (λ i y e. stored_part l d (set s.words (grant_at r) 0) v (λ j z q. let out = h.stored id v j z at q in (grant_stored l c d s.words r (ring_of z) z.stored (standing_of stands l s h) in_layout (λ _. refl) out.0, unit_kept l c d s.words (grant_at r) 0 z refl refl (λ k' lt. ((λ e. omega arith), (λ e. omega arith))) out.1)) i y e)
       (λ _ _ _ z. z) (λ i y e. knows_part h.fault v (λ t is. none_some t is) (λ j z q. h.faults id v j z at q) i y e)
       (λ e. still_told s.views id v w at (told_more (new_part v.opening r) v.parts) (h.teller e)) in
       (next.0, next.1, n_is)
     where
       stored_part : (l : Layout) (d : State) (ws : List ℕ) (v : View) → ((i : ℕ) (p : RingPart) → get_elem? v.parts i ≡ some p → IsOut l d ws p)
           → (i : ℕ) (y : RingPart) → get_elem? (new_part v.opening r ∷ v.parts) i ≡ some y → IsOut l d ws y
-      stored_part l d ws v old zero y e = subst (IsOut l d ws) (some-injective (new_part v.opening r) y e) (record { words = λ w n q. absurd (none_some n q); inside = λ w n q. absurd (none_some n q) }, λ n q. absurd (none_some n q))
+      stored_part l d ws v old zero y e = subst (IsOut l d ws) (some-injective (new_part v.opening r) y e) (record { words = λ w n q. absurd (none_some n q); inside = λ w n q. absurd (none_some n q) }, none_out l d ws (new_part v.opening r) refl refl)
       stored_part l d ws v old (suc i) y e = old i y e
 
       knows_part : (fault : Bool) (v : View) → ((t : Taken) → (new_part v.opening r).turn ≡ Some t → ⊥) → ((i : ℕ) (p : RingPart) → get_elem? v.parts i ≡ some p → KnowsFault fault p)

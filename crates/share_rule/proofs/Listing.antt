@@ -1,5 +1,5 @@
 -- Units are listed and seen.
-use Rattle.std.proofs.Common.{◌≡◌, ℕ, zero, suc, ◌+◌, ◌*◌, ◌<◌, ◌≤◌, true, List, [], ◌∷◌, ◌++◌, map, length, set, refl, sym, ap, ◌∙◌, subst, inl, inr, arith, true≢false, append_assoc, length-append, get_or-set_same, Option, Some, None, Bool}
+use Rattle.std.proofs.Common.{◌≡◌, ℕ, zero, suc, ◌+◌, ◌*◌, ◌<◌, ◌≤◌, true, List, [], ◌∷◌, ◌++◌, map, length, set, refl, sym, ap, ◌∙◌, subst, inl, inr, arith, true≢false, append_assoc, length-append, get_or-set_other, get_or-set_same, Option, Some, None, Bool}
 use Rattle.std.specs.Prelude.{slice_index, slice_index_or, is_some}
 use mathlib.Core.Option.{some, some-injective, some-ne-none}
 use mathlib.Core.Option as maybe
@@ -8,37 +8,40 @@ use Rattle.atomic_table.specs.Table.{State as Table, Me, keeps, step, Allows}
 use Rattle.sat_words.specs.Literal.{Literal, code_of}
 use Rattle.sat_words.specs.Clause.{has}
 use Rattle.rup_model.specs.declared.journal.Entry.{Entry}
-use Rattle.rup_model.specs.Journal.{is_told}
+use Rattle.rup_model.specs.Journal.{book}
 use Rattle.rup_model.proofs.Sums.{put_here, put_else}
 use Rattle.share_core.specs.declared.event.Event.TheVariants.{Publish, See}
 use Rattle.share_core.specs.declared.part.CoreOpening.{CoreOpening}
 use Rattle.share_core.specs.declared.part.Part.{Part}
 use Rattle.share_core.specs.State.{State}
-use Rattle.share_core.specs.Events.{after, seen_part, unit_at as core_unit}
+use Rattle.share_core.specs.Events.{after, seen_part, unit_at as core_unit, listed_number}
 use Rattle.share_core.specs.Sound.{Sound}
-use Rattle.share_core.proofs.Counting.{some_same, none_some}
+use Rattle.share_core.proofs.Counting.{some_same}
 use Rattle.share_core.proofs.ClauseLists.{all_one, all_last}
+use Rattle.share_core.proofs.Pairs.{paired_long}
 use Rattle.share_rule.specs.declared.view.BookOrigin.{BookOrigin}
 use Rattle.share_rule.specs.declared.view.Taken.{Taken}
 use Rattle.share_rule.specs.declared.Layout.{Layout}
 use Rattle.share_rule.specs.declared.rule.Key.{Key}
 use Rattle.share_rule.specs.declared.view.RingPart.{RingPart}
 use Rattle.share_rule.specs.declared.view.View.{View}
-use Rattle.share_rule.specs.Layout.{unit_at, first_cell}
+use Rattle.share_rule.specs.Layout.{unit_at, number_at, first_cell, cells_end}
 use Rattle.share_rule.specs.Layout.{InVars}
+use Rattle.share_rule.specs.Steps.{on_first, after_load}
 use Rattle.share_rule.specs.Views.{only, no_part, is_ready}
 use Rattle.share_rule.specs.Seen.{Stands, IsPart, Seen, turn_of}
 use Rattle.share_rule.specs.Shown.{Shown, Shows, ring_of}
 use Rattle.share_rule.specs.Turns.{journal_in}
-use Rattle.share_rule.specs.Units.{MayPublish, count_part, see_part, unit_part, list_part, after_count, after_see, after_unit, after_list, next_unit_at}
-use Rattle.share_rule.specs.UnitsTold.{counted_units, saw_unit, stored_unit, listed_unit}
+use Rattle.share_rule.specs.Units.{MayPublish, count_part, see_part, unit_part, number_part, list_part, after_count, after_see, after_unit, after_number, after_list, next_unit_at, next_number_at}
+use Rattle.share_rule.specs.UnitsTold.{counted_units, saw_unit, stored_unit, stored_number, listed_unit, loaded_number}
 use Rattle.share_core.proofs.Leaving.{left_sound, left_one}
 use Rattle.share_rule.proofs.Parts.{is_open, standing_of}
-use Rattle.share_rule.proofs.Moves.{one_ring, frame_of, turn_has, given_same, stops_same, moved}
+use Rattle.share_rule.proofs.Moves.{one_ring, frame_of, turn_has, given_same, stops_same, moved, looked}
 use Rattle.share_rule.proofs.Lists.{set_itself}
+use Rattle.share_rule.proofs.Words.{none_out, turn_out}
 use Rattle.share_rule.proofs.Literals.{few_distinct}
 use Rattle.share_rule.proofs.Steps.{told, stays_still}
-use Rattle.share_rule.proofs.UnitWords.{low_stored, unit_words, list_words, Listable, listable, units_front, seen_few, only_changed}
+use Rattle.share_rule.proofs.UnitWords.{low_stored, high_stored, unit_words, number_words, list_words, Listable, listable, units_front, seen_few, number_seen, only_changed}
 
 module _ {S : Type 0} (stands : S → BookOrigin → Layout → CoreOpening → List Entry → Bool → Type 0) (k : Key) where
   -- the number of listed units is loaded
@@ -76,8 +79,8 @@ module _ {S : Type 0} (stands : S → BookOrigin → Layout → CoreOpening → 
 
   -- the next unit is loaded
   seen_next : (s : Table (Option S) View) (h : Shows stands k.layout s) (id : ℕ) (v : View) → get_elem? s.views id ≡ some v → is_ready v.stage ≡ true → v.parts ≡ only v ∷ [] → length (only v).core.seen < (only v).listed
-      → (lit : Literal) × (slice_index s.words (next_unit_at v) ≡ code_of lit) × InVars v.layout (lit ∷ [])
-      × ((m : Shows stands k.layout (record { words = s.words; homes = s.homes; views = set s.views id (after_see lit v) })) × (m.core ≡ after h.core (See (ring_of (only v)))))
+      → (lit : Literal) × (number : ℕ) × (slice_index s.words (next_unit_at v) ≡ code_of lit) × InVars v.layout (lit ∷ [])
+      × ((m : Shows stands k.layout (record { words = s.words; homes = s.homes; views = set s.views id (after_see lit number v) })) × (m.core ≡ after h.core (See (ring_of (only v)))))
   seen_next s h id v at ready one few =
       let l : Layout = k.layout in
       let c : State = h.core in
@@ -92,19 +95,22 @@ module _ {S : Type 0} (stands : S → BookOrigin → Layout → CoreOpening → 
       let same : length p.core.seen ≡ length (c.part r).seen = ap (λ (q : Part). length q.seen) part.part in
       let lit : Literal = core_unit c.units (length p.core.seen) in
       let lit_is : lit ≡ core_unit c.units (length (c.part r).seen) = ap (core_unit c.units) same in
+      let number : ℕ = listed_number c.numbers (length p.core.seen) in
+      let number_is : number ≡ listed_number c.numbers (length (c.part r).seen) = ap (listed_number c.numbers) same in
       let d : State = after c (See r) in
-      let q' : Part = seen_part (core_unit c.units (length (c.part r).seen)) (c.part r) in
+      let q' : Part = seen_part (core_unit c.units (length (c.part r).seen)) (listed_number c.numbers (length (c.part r).seen)) (c.part r) in
       let code : slice_index s.words (next_unit_at v) ≡ code_of lit = ap (λ (y : Layout). slice_index s.words (unit_at y (length p.core.seen))) t.0 ∙ h.words.unit_is (length p.core.seen) lt ∙ code_at_is c.units (length p.core.seen) lt in (
         lit,
+        number,
         code,
         subst (λ (y : Layout). InVars y (lit ∷ [])) (sym t.0) (one_of l c.units (length p.core.seen) lt h.places.units),
-        moved stands l s h d h.glue id v (after_see lit v) (see_part lit p) s.words s.homes at
+        moved stands l s h d h.glue id v (after_see lit number v) (see_part lit number p) s.words s.homes at
             (left_one c.opening c (See r) h.left (part.ring, subst (λ (y : ℕ). y < length c.units) same lt))
             (record { rings = h.places.rings; depth = h.places.depth; limit = h.places.limit; small = h.places.small; words = h.places.words; only = h.places.only; tiled = h.places.tiled; vars = h.places.vars; starts = h.places.starts; entries = h.places.entries; units = h.places.units; few = h.places.few; first = h.places.first })
-            (record { wide = h.words.wide; turn_is = h.words.turn_is; stop_is = h.words.stop_is; listed_is = h.words.listed_is; grant_is = h.words.grant_is; unit_is = h.words.unit_is; slot_is = h.words.slot_is; ticket_is = h.words.ticket_is; count_is = h.words.count_is; cell_is = h.words.cell_is })
-            (frame_of r c d h.glue (record { opening = refl; journal = refl; turn = refl; units = refl; stop = refl; slots = λ _. refl; clauses = λ _. refl }) (λ _ _. refl) (put_else c.part r q')) (λ _. refl) h.home one refl (only_changed (see_part lit) v one) refl refl refl refl refl
-            (stops_same c.stop v (after_see lit v) (see_part lit p) one (only_changed (see_part lit) v one) refl refl (h.each id v at).stops)
-            (record { ring = part.ring; part = (λ i. seen_part (lit_is i) (part.part i)) ∙ sym (put_here c.part r q'); glues = part.glues; made_glues = part.made_glues; turn = part.turn; listed = part.listed; whole = part.whole; refused = part.refused; set = part.set; ended_is = part.ended_is; given = given_same c d r p.gave refl (λ _. refl) (λ _. refl) part.given })
+            (record { wide = h.words.wide; turn_is = h.words.turn_is; stop_is = h.words.stop_is; listed_is = h.words.listed_is; grant_is = h.words.grant_is; unit_is = h.words.unit_is; number_is = h.words.number_is; slot_is = h.words.slot_is; ticket_is = h.words.ticket_is; count_is = h.words.count_is; cell_is = h.words.cell_is })
+            (frame_of r c d h.glue (record { opening = refl; journal = refl; turn = refl; units = refl; stop = refl; slots = λ _. refl; clauses = λ _. refl }) (λ _ _. refl) (put_else c.part r q')) (λ _. refl) h.home one refl (only_changed (see_part lit number) v one) refl refl refl refl refl
+            (stops_same c.stop v (after_see lit number v) (see_part lit number p) one (only_changed (see_part lit number) v one) refl refl (h.each id v at).stops)
+            (record { ring = part.ring; part = (λ i. seen_part (lit_is i) (number_is i) (part.part i)) ∙ sym (put_here c.part r q'); glues = part.glues; made_glues = part.made_glues; turn = part.turn; listed = part.listed; whole = part.whole; refused = part.refused; set = part.set; ended_is = part.ended_is; given = given_same c d r p.gave refl (λ _. refl) (λ _. refl) part.given })
             (λ y _ z. (record { words = z.0.words; inside = z.0.inside }, z.1))
             (let own = h.stored id v 0 p at (ap (λ ps. get_elem? ps 0) one) in (record { words = own.0.words; inside = own.0.inside }, own.1)),
       )
@@ -120,9 +126,9 @@ module _ {S : Type 0} (stands : S → BookOrigin → Layout → CoreOpening → 
       one_of l (u ∷ us) (suc i) lt h = one_of l us i (omega arith) (λ j d it. h (suc j) d (omega arith))
 
   -- the word of the unit is stored
-  pub unit_next : (s : Table (Option S) View) (h : Shows stands k.layout s) (id n : ℕ) (lit : Literal) (v : View) → get_elem? s.views id ≡ some v → is_ready v.stage ≡ true → MayPublish lit v
+  pub unit_next : (s : Table (Option S) View) (h : Shows stands k.layout s) (id n : ℕ) (lit : Literal) (number : ℕ) (v : View) → get_elem? s.views id ≡ some v → is_ready v.stage ≡ true → MayPublish lit number v
       → (m : Shows stands k.layout (record { words = set s.words (next_unit_at v) n; homes = s.homes; views = set s.views id (after_unit n v) })) × (m.core ≡ h.core)
-  unit_next s h id n lit v at ready may =
+  unit_next s h id n lit number v at ready may =
       let l : Layout = k.layout in
       let c : State = h.core in
       let p : RingPart = only v in
@@ -132,7 +138,7 @@ module _ {S : Type 0} (stands : S → BookOrigin → Layout → CoreOpening → 
       let mine = one_ring l c h.glue h.owner id v (h.each id v at) one in
       let part : IsPart l c h.glue p = mine.0 in
       let st : Stands l c = standing_of stands l s h in
-      let ok : Listable l c lit v = listable l c h.glue lit v (left_sound c.opening c h.left) part h.places.units t may in
+      let ok : Listable l c lit number v = listable l c h.glue lit number v (left_sound c.opening c h.left) part h.places.units t may in
       let w : ℕ = unit_at l (length c.units) in
       let room = ok.room in
       let w_is : next_unit_at v ≡ w = (λ i. unit_at (t.0 i) (length (sym ok.units i))) in
@@ -145,13 +151,18 @@ module _ {S : Type 0} (stands : S → BookOrigin → Layout → CoreOpening → 
       (frame_of r c c h.glue (stays_still c) (λ _ _. refl) (λ _ _. refl)) (λ _. refl) h.home one refl (only_changed (unit_part n) v one) refl refl refl refl refl
       (stops_same c.stop v (after_unit n v) (unit_part n p) one (only_changed (unit_part n) v one) refl refl (h.each id v at).stops)
       (record { ring = part.ring; part = part.part; glues = part.glues; made_glues = part.made_glues; turn = part.turn; listed = part.listed; whole = part.whole; refused = part.refused; set = part.set; ended_is = part.ended_is; given = part.given })
-      (λ y ne z. (low_stored l c c s.words w n (ring_of y) y.stored st low (λ _. refl) z.0, λ m e. absurd (ne (some_same (ring_of y) r (sym (z.1 m e).0 ∙ ok.turn)))))
-      (low_stored l c c s.words w n r p.stored st low (λ _. refl) own.0, λ m e. (ok.turn, room, get_or-set_same s.words w n 0 in_ws ∙ some_same n m e)))
+      (λ y ne z. (low_stored l c c s.words w n (ring_of y) y.stored st low (λ _. refl) z.0, turn_out l c c s.words (set s.words w n) y (λ e. ne (some_same (ring_of y) r (sym e ∙ ok.turn))) z.1)) (
+        low_stored l c c s.words w n r p.stored st low (λ _. refl) own.0,
+        (
+          λ m e. (ok.turn, room, get_or-set_same s.words w n 0 in_ws ∙ some_same n m e),
+          λ m e. let u = own.1.1 m e in (u.0, u.1, get_or-set_other s.words w (number_at l (length c.units)) n 0 (λ q. omega arith) ∙ u.2),
+        ),
+      ))
 
-  -- and counted
-  pub list_next : (s : Table (Option S) View) (h : Shows stands k.layout s) (id : ℕ) (lit : Literal) (v : View) → get_elem? s.views id ≡ some v → is_ready v.stage ≡ true → MayPublish lit v → (only v).unit ≡ Some (code_of lit)
-      → (m : Shows stands k.layout (record { words = set s.words 2 (length (only v).core.seen + 1); homes = s.homes; views = set s.views id (after_list lit v) })) × (m.core ≡ after h.core (Publish (ring_of (only v)) lit))
-  list_next s h id lit v at ready may there =
+  -- the word of its number is stored
+  pub number_next : (s : Table (Option S) View) (h : Shows stands k.layout s) (id n : ℕ) (lit : Literal) (number : ℕ) (v : View) → get_elem? s.views id ≡ some v → is_ready v.stage ≡ true → MayPublish lit number v
+      → (m : Shows stands k.layout (record { words = set s.words (next_number_at v) n; homes = s.homes; views = set s.views id (after_number n v) })) × (m.core ≡ h.core)
+  number_next s h id n lit number v at ready may =
       let l : Layout = k.layout in
       let c : State = h.core in
       let p : RingPart = only v in
@@ -161,22 +172,59 @@ module _ {S : Type 0} (stands : S → BookOrigin → Layout → CoreOpening → 
       let mine = one_ring l c h.glue h.owner id v (h.each id v at) one in
       let part : IsPart l c h.glue p = mine.0 in
       let st : Stands l c = standing_of stands l s h in
-      let ok : Listable l c lit v = listable l c h.glue lit v (left_sound c.opening c h.left) part h.places.units t may in
+      let ok : Listable l c lit number v = listable l c h.glue lit number v (left_sound c.opening c h.left) part h.places.units t may in
+      let w : ℕ = number_at l (length c.units) in
+      let room = ok.room in
+      let w_is : next_number_at v ≡ w = (λ i. number_at (t.0 i) (length (sym ok.units i))) in
+      let high : cells_end l ≤ w = omega arith in
+      let wide = h.words.wide in
+      let in_ws : w < length s.words = omega arith in
       let own = h.stored id v 0 p at (ap (λ ps. get_elem? ps 0) one) in
-      let word = (own.1 (code_of lit) there).2 in
+      subst (λ (y : ℕ). (m : Shows stands l (record { words = set s.words y n; homes = s.homes; views = set s.views id (after_number n v) })) × (m.core ≡ c)) (sym w_is)
+      (moved stands l s h c h.glue id v (after_number n v) (number_part n p) (set s.words w n) s.homes at h.left h.places (number_words l c h.glue s.words n st h.words)
+      (frame_of r c c h.glue (stays_still c) (λ _ _. refl) (λ _ _. refl)) (λ _. refl) h.home one refl (only_changed (number_part n) v one) refl refl refl refl refl
+      (stops_same c.stop v (after_number n v) (number_part n p) one (only_changed (number_part n) v one) refl refl (h.each id v at).stops)
+      (record { ring = part.ring; part = part.part; glues = part.glues; made_glues = part.made_glues; turn = part.turn; listed = part.listed; whole = part.whole; refused = part.refused; set = part.set; ended_is = part.ended_is; given = part.given })
+      (λ y ne z. (high_stored l c c s.words w n (ring_of y) y.stored st high (λ _. refl) z.0, turn_out l c c s.words (set s.words w n) y (λ e. ne (some_same (ring_of y) r (sym e ∙ ok.turn))) z.1)) (
+        high_stored l c c s.words w n r p.stored st high (λ _. refl) own.0,
+        (
+          λ m e. let u = own.1.0 m e in (u.0, u.1, get_or-set_other s.words w (unit_at l (length c.units)) n 0 (λ q. omega arith) ∙ u.2),
+          λ m e. (ok.turn, room, get_or-set_same s.words w n 0 in_ws ∙ some_same n m e),
+        ),
+      ))
+
+  -- and counted
+  pub list_next : (s : Table (Option S) View) (h : Shows stands k.layout s) (id : ℕ) (lit : Literal) (number : ℕ) (v : View) → get_elem? s.views id ≡ some v → is_ready v.stage ≡ true → MayPublish lit number v → (only v).unit ≡ Some (code_of lit) → (only v).number ≡ Some number
+      → (m : Shows stands k.layout (record { words = set s.words 2 (length (only v).core.seen + 1); homes = s.homes; views = set s.views id (after_list lit number v) })) × (m.core ≡ after h.core (Publish (ring_of (only v)) lit number))
+  list_next s h id lit number v at ready may there numbered =
+      let l : Layout = k.layout in
+      let c : State = h.core in
+      let p : RingPart = only v in
+      let r : ℕ = ring_of p in
+      let one = may.writing.0 in
+      let t = (h.each id v at).told ready in
+      let mine = one_ring l c h.glue h.owner id v (h.each id v at) one in
+      let part : IsPart l c h.glue p = mine.0 in
+      let st : Stands l c = standing_of stands l s h in
+      let ok : Listable l c lit number v = listable l c h.glue lit number v (left_sound c.opening c h.left) part h.places.units t may in
+      let own = h.stored id v 0 p at (ap (λ ps. get_elem? ps 0) one) in
+      let word = (own.1.0 (code_of lit) there).2 in
+      let number_word = (own.1.1 number numbered).2 in
+      let sound : Sound c = left_sound c.opening c h.left in
+      let many : length c.numbers ≡ length c.units = paired_long (book c.opening.formula c.journal) c.units c.numbers sound.units.paired in
       let n : ℕ = length c.units + 1 in
       let n_is : length p.core.seen + 1 ≡ n = ap (λ (us : List Literal). length us + 1) (sym ok.units) in
-      let d : State = after c (Publish r lit) in
-      let q' : Part = seen_part lit (c.part r) in
+      let d : State = after c (Publish r lit number) in
+      let q' : Part = seen_part lit number (c.part r) in
       let same : length (c.part r).seen ≡ length c.units = ap (λ (q : Part). length q.seen) (sym part.part) ∙ ap (λ (us : List Literal). length us) (sym ok.units) in
       let long : length (c.units ++ lit ∷ []) ≡ n = length-append c.units (lit ∷ []) in
       let low : 2 < first_cell l = omega arith in
       let lit_vars : InVars l (lit ∷ []) = subst (λ (y : Layout). InVars y (lit ∷ [])) t.0 may.vars in
-      subst (λ (y : ℕ). (m : Shows stands l (record { words = set s.words 2 y; homes = s.homes; views = set s.views id (after_list lit v) })) × (m.core ≡ d)) (sym n_is)
-      (moved stands l s h d h.glue id v (after_list lit v) (list_part lit p) (set s.words 2 n) s.homes at
-      (left_one c.opening c (Publish r lit) h.left (part.ring, ok.turn, ok.told, same, ok.new))
+      subst (λ (y : ℕ). (m : Shows stands l (record { words = set s.words 2 y; homes = s.homes; views = set s.views id (after_list lit number v) })) × (m.core ≡ d)) (sym n_is)
+      (moved stands l s h d h.glue id v (after_list lit number v) (list_part lit number p) (set s.words 2 n) s.homes at
+      (left_one c.opening c (Publish r lit number) h.left (part.ring, ok.turn, ok.told, same, ok.new))
       (record { rings = h.places.rings; depth = h.places.depth; limit = h.places.limit; small = h.places.small; words = h.places.words; only = h.places.only; tiled = h.places.tiled; vars = h.places.vars; starts = h.places.starts; few = let q = long in let z = ok.room in omega arith; entries = h.places.entries; first = (h.places.first.0 ++ lit ∷ [], ap (λ (us : List Literal). us ++ lit ∷ []) h.places.first.1 ∙ append_assoc c.opening.units h.places.first.0 (lit ∷ [])); units = all_last (λ (x : Literal). (1 ≤ x.var) × (x.var ≤ l.vars)) c.units lit h.places.units (lit_vars 0 lit (omega arith)) })
-      (list_words l c r lit h.glue s.words st ok.room word h.words)
+      (list_words l c r lit number h.glue s.words st ok.room many word number_word h.words)
       (record {
         opening = refl;
         granted = λ _ _. refl;
@@ -192,11 +240,11 @@ module _ {S : Type 0} (stands : S → BookOrigin → Layout → CoreOpening → 
         given = λ i gave _ _ given. given_same c d i gave refl (λ _. refl) (λ _. refl) given;
         glue_kept = λ m lt. refl;
       })
-      (λ _. refl) h.home one refl (only_changed (list_part lit) v one) refl refl refl refl refl
-      (stops_same c.stop v (after_list lit v) (list_part lit p) one (only_changed (list_part lit) v one) refl refl (h.each id v at).stops)
+      (λ _. refl) h.home one refl (only_changed (list_part lit number) v one) refl refl refl refl refl
+      (stops_same c.stop v (after_list lit number v) (list_part lit number p) one (only_changed (list_part lit number) v one) refl refl (h.each id v at).stops)
       (record {
         ring = part.ring;
-        part = ap (seen_part lit) part.part ∙ sym (put_here c.part r q');
+        part = ap (seen_part lit number) part.part ∙ sym (put_here c.part r q');
         glues = part.glues;
         made_glues = part.made_glues;
         turn = part.turn;
@@ -207,8 +255,8 @@ module _ {S : Type 0} (stands : S → BookOrigin → Layout → CoreOpening → 
         ended_is = part.ended_is;
         given = given_same c d r p.gave refl (λ _. refl) (λ _. refl) part.given;
       })
-      (λ y ne z. (low_stored l c d s.words 2 n (ring_of y) y.stored st low (λ _. refl) z.0, λ m e. absurd (ne (some_same (ring_of y) r (sym (z.1 m e).0 ∙ ok.turn)))))
-      (low_stored l c d s.words 2 n r p.stored st low (λ _. refl) own.0, λ m e. absurd (none_some m e)))
+      (λ y ne z. (low_stored l c d s.words 2 n (ring_of y) y.stored st low (λ _. refl) z.0, turn_out l c d s.words (set s.words 2 n) y (λ e. ne (some_same (ring_of y) r (sym e ∙ ok.turn))) z.1))
+      (low_stored l c d s.words 2 n r p.stored st low (λ _. refl) own.0, none_out l d (set s.words 2 n) (list_part lit number p) refl refl))
 
   -- the steps
 
@@ -222,11 +270,11 @@ module _ {S : Type 0} (stands : S → BookOrigin → Layout → CoreOpening → 
   count_next s h id v at ready one = same_words s 2 id (after_count (slice_index s.words 2) v) h.core (counted_next s h id v at ready one)
 
   pub see_next : (s : Table (Option S) View) (h : Shows stands k.layout s) (id : ℕ) (v : View) → get_elem? s.views id ≡ some v → is_ready v.stage ≡ true → v.parts ≡ only v ∷ [] → length (only v).core.seen < (only v).listed
-      → (lit : Literal) × (slice_index s.words (next_unit_at v) ≡ code_of lit) × InVars v.layout (lit ∷ [])
-      × ((m : Shows stands k.layout (record { words = set s.words (next_unit_at v) (slice_index s.words (next_unit_at v)); homes = s.homes; views = set s.views id (after_see lit v) })) × (m.core ≡ after h.core (See (ring_of (only v)))))
+      → (lit : Literal) × (number : ℕ) × (slice_index s.words (next_unit_at v) ≡ code_of lit) × InVars v.layout (lit ∷ [])
+      × ((m : Shows stands k.layout (record { words = set s.words (next_unit_at v) (slice_index s.words (next_unit_at v)); homes = s.homes; views = set s.views id (after_see lit number v) })) × (m.core ≡ after h.core (See (ring_of (only v)))))
   see_next s h id v at ready one few =
       let t = seen_next s h id v at ready one few in
-      (t.0, t.1, t.2, same_words s (next_unit_at v) id (after_see t.0 v) (after h.core (See (ring_of (only v)))) t.3)
+      (t.0, t.1, t.2, t.3, same_words s (next_unit_at v) id (after_see t.0 t.1 v) (after h.core (See (ring_of (only v)))) t.4)
 
   pub counts_it : (slots id : ℕ) (me : Me (Option S) View) → is_ready me.0.stage ≡ true → me.0.parts ≡ only me.0 ∷ [] → Allows (Shown stands k) slots id me 2 (λ n. n) (counted_units (step slots 2 0 0 maybe.none) me)
   counts_it slots id me ready one s shown wide at small =
@@ -251,26 +299,75 @@ module _ {S : Type 0} (stands : S → BookOrigin → Layout → CoreOpening → 
           let v : View = me.0 in
           let h : Shows stands k.layout s = is_open stands k s id v shown at ready in
           let t = see_next s h id v at ready one few in
-          let next = t.3.0 in
-          (after_see t.0 v, keeps, tt, inr next, (t.0, t.1, t.2, (refl, refl, told stands k s (set s.words (next_unit_at v) (slice_index s.words (next_unit_at v))) id v (after_see t.0 v) at ready next)))
+          let next = t.4.0 in
+          (after_see t.0 t.1 v, keeps, tt, inr next, (t.0, t.1, t.2, t.3, (refl, refl, told stands k s (set s.words (next_unit_at v) (slice_index s.words (next_unit_at v))) id v (after_see t.0 t.1 v) at ready next)))
 
-  pub units_it : (slots id : ℕ) (me : Me (Option S) View) (lit : Literal) (w n : ℕ) → is_ready me.0.stage ≡ true → MayPublish lit me.0 → w ≡ next_unit_at me.0
+  pub units_it : (slots id : ℕ) (me : Me (Option S) View) (lit : Literal) (number w n : ℕ) → is_ready me.0.stage ≡ true → MayPublish lit number me.0 → w ≡ next_unit_at me.0
       → Allows (Shown stands k) slots id me w (λ _. n) (λ _. stored_unit (step slots w n 0 maybe.none) me n)
-  units_it slots id me lit w n ready may w_is = subst (λ (x : ℕ). Allows (Shown stands k) slots id me x (λ _. n) (λ _. stored_unit (step slots x n 0 maybe.none) me n)) (sym w_is)
+  units_it slots id me lit number w n ready may w_is = subst (λ (x : ℕ). Allows (Shown stands k) slots id me x (λ _. n) (λ _. stored_unit (step slots x n 0 maybe.none) me n)) (sym w_is)
       (λ s shown wide at small.
       let v : View = me.0 in
       let h : Shows stands k.layout s = is_open stands k s id v shown at ready in
-      let next = (unit_next s h id n lit v at ready may).0 in
+      let next = (unit_next s h id n lit number v at ready may).0 in
       (after_unit n v, keeps, tt, inr next, (refl, refl, told stands k s (set s.words (next_unit_at v) n) id v (after_unit n v) at ready next)))
 
-  pub lists_it : (slots id : ℕ) (me : Me (Option S) View) (lit : Literal) (n : ℕ) → is_ready me.0.stage ≡ true → MayPublish lit me.0 → (only me.0).unit ≡ Some (code_of lit) → n ≡ length (only me.0).core.seen + 1
-      → Allows (Shown stands k) slots id me 2 (λ _. n) (λ _. listed_unit lit (step slots 2 n 0 maybe.none) me n)
-  lists_it slots id me lit n ready may there n_is = subst (λ (x : ℕ). Allows (Shown stands k) slots id me 2 (λ _. x) (λ _. listed_unit lit (step slots 2 x 0 maybe.none) me x)) (sym n_is)
+  -- a number of a unit that the ring has seen is loaded
+  pub number_loaded : (s : Table (Option S) View) (h : Shows stands k.layout s) (id place : ℕ) (v : View) → get_elem? s.views id ≡ some v → is_ready v.stage ≡ true → v.parts ≡ only v ∷ [] → place < length (only v).core.seen
+      → (slice_index s.words (number_at v.layout place) ≡ listed_number (only v).core.numbers place)
+      × ((m : Shows stands k.layout (record { words = set s.words (number_at v.layout place) (slice_index s.words (number_at v.layout place)); homes = s.homes; views = set s.views id (after_load (number_at v.layout place) (slice_index s.words (number_at v.layout place)) v) })) × (m.core ≡ h.core))
+  number_loaded s h id place v at ready one lt =
+      let l : Layout = k.layout in
+      let c : State = h.core in
+      let t = (h.each id v at).told ready in
+      let mine = one_ring l c h.glue h.owner id v (h.each id v at) one in
+      let part : IsPart l c h.glue (only v) = mine.0 in
+      let sound : Sound c = left_sound c.opening c h.left in
+      let few = seen_few l c sound h.glue (only v) part in
+      let w : ℕ = number_at v.layout place in
+      let u : View = after_load w (slice_index s.words w) v in (
+        ap (λ (y : Layout). slice_index s.words (number_at y place)) t.0 ∙ h.words.number_is place (omega arith) ∙ number_seen l c sound h.glue (only v) part place lt,
+        same_words s w id u c (looked stands l s h id v u at refl refl refl refl refl refl (h.each id v at).stops),
+      )
+
+  pub numbers_read : (slots id : ℕ) (me : Me (Option S) View) (w place : ℕ) → is_ready me.0.stage ≡ true → me.0.parts ≡ only me.0 ∷ [] → place < length (only me.0).core.seen → w ≡ number_at me.0.layout place
+      → Allows (Shown stands k) slots id me w (λ n. n) (loaded_number (step slots w 0 0 maybe.none) me)
+  numbers_read slots id me w place ready one lt w_is = subst (λ (x : ℕ). Allows (Shown stands k) slots id me x (λ n. n) (loaded_number (step slots x 0 0 maybe.none) me)) (sym w_is) at_it
+    where
+      at_it : Allows (Shown stands k) slots id me (number_at me.0.layout place) (λ n. n) (loaded_number (step slots (number_at me.0.layout place) 0 0 maybe.none) me)
+      at_it s shown wide at small =
+          let v : View = me.0 in
+          let h : Shows stands k.layout s = is_open stands k s id v shown at ready in
+          let x : ℕ = number_at v.layout place in
+          let n : ℕ = slice_index s.words x in
+          let t = number_loaded s h id place v at ready one lt in
+          let next = t.1.0 in (
+            after_load x n v,
+            keeps,
+            tt,
+            inr next,
+            (
+              (refl, refl, told stands k s (set s.words x n) id v (after_load x n v) at ready next),
+              λ j jt same. let j_is : j ≡ place = omega arith in t.0 ∙ ap (listed_number (only v).core.numbers) (sym j_is),
+            ),
+          )
+
+  pub numbers_it : (slots id : ℕ) (me : Me (Option S) View) (lit : Literal) (number w n : ℕ) → is_ready me.0.stage ≡ true → MayPublish lit number me.0 → w ≡ next_number_at me.0
+      → Allows (Shown stands k) slots id me w (λ _. n) (λ _. stored_number (step slots w n 0 maybe.none) me n)
+  numbers_it slots id me lit number w n ready may w_is = subst (λ (x : ℕ). Allows (Shown stands k) slots id me x (λ _. n) (λ _. stored_number (step slots x n 0 maybe.none) me n)) (sym w_is)
       (λ s shown wide at small.
       let v : View = me.0 in
       let h : Shows stands k.layout s = is_open stands k s id v shown at ready in
-      let next = (list_next s h id lit v at ready may there).0 in
-      (after_list lit v, keeps, tt, inr next, (refl, refl, told stands k s (set s.words 2 (length (only v).core.seen + 1)) id v (after_list lit v) at ready next)))
+      let next = (number_next s h id n lit number v at ready may).0 in
+      (after_number n v, keeps, tt, inr next, (refl, refl, told stands k s (set s.words (next_number_at v) n) id v (after_number n v) at ready next)))
+
+  pub lists_it : (slots id : ℕ) (me : Me (Option S) View) (lit : Literal) (number n : ℕ) → is_ready me.0.stage ≡ true → MayPublish lit number me.0 → (only me.0).unit ≡ Some (code_of lit) → (only me.0).number ≡ Some number → n ≡ length (only me.0).core.seen + 1
+      → Allows (Shown stands k) slots id me 2 (λ _. n) (λ _. listed_unit lit number (step slots 2 n 0 maybe.none) me n)
+  lists_it slots id me lit number n ready may there numbered n_is = subst (λ (x : ℕ). Allows (Shown stands k) slots id me 2 (λ _. x) (λ _. listed_unit lit number (step slots 2 x 0 maybe.none) me x)) (sym n_is)
+      (λ s shown wide at small.
+      let v : View = me.0 in
+      let h : Shows stands k.layout s = is_open stands k s id v shown at ready in
+      let next = (list_next s h id lit number v at ready may there numbered).0 in
+      (after_list lit number v, keeps, tt, inr next, (refl, refl, told stands k s (set s.words 2 (length (only v).core.seen + 1)) id v (after_list lit number v) at ready next)))
 
 -- the list has room
 pub seen_room : (v : View) → Seen v → v.parts ≡ only v ∷ [] → (length (only v).core.seen ≤ 2 * v.layout.vars) × ((only v).listed ≤ 2 * v.layout.vars)
@@ -299,25 +396,37 @@ seen_first v s one le =
     let first = s.places.first in
     shorter_front (only v).core.seen v.opening.units front.0 first.0 (sym front.1 ∙ first.1 ∙ ap (λ (o : CoreOpening). o.units ++ first.0) (sym s.opening)) le
 
--- a unit may be listed if its word is stored
-pub still : (lit : Literal) (n : ℕ) (v : View) → MayPublish lit v → (only (after_unit n v) ≡ unit_part n (only v)) × MayPublish lit (after_unit n v)
-still lit n v may =
-    let is : only (after_unit n v) ≡ unit_part n (only v) = ap (λ ps. slice_index_or ps 0 no_part) (only_changed (unit_part n) v may.writing.0) in
-    let parts : (after_unit n v).parts ≡ only (after_unit n v) ∷ [] = only_changed (unit_part n) v may.writing.0 ∙ (λ i. sym is i ∷ []) in (
+-- a unit may be listed if a word of it is stored
+kept_may : (f : RingPart → RingPart) (lit : Literal) (number : ℕ) (v w : View) → w.parts ≡ on_first f v.parts → w.layout ≡ v.layout → w.opening ≡ v.opening → ((p : RingPart) → (f p).turn ≡ p.turn) → ((p : RingPart) → (f p).whole ≡ p.whole)
+    → ((p : RingPart) → (f p).listed ≡ p.listed) → ((p : RingPart) → (f p).core ≡ p.core) → MayPublish lit number v → (only w ≡ f (only v)) × MayPublish lit number w
+kept_may f lit number v w parts layout opening turns wholes listeds cores may =
+    let one : w.parts ≡ f (only v) ∷ [] = parts ∙ ap (on_first f) may.writing.0 in
+    let is : only w ≡ f (only v) = ap (λ ps. slice_index_or ps 0 no_part) one in
+    let turn : (only w).turn ≡ (only v).turn = ap (λ (p : RingPart). p.turn) is ∙ turns (only v) in
+    let core : (only w).core ≡ (only v).core = ap (λ (p : RingPart). p.core) is ∙ cores (only v) in (
       is,
       record {
-        writing = (parts, (may.writing.1.0, ap (λ (p : RingPart). p.turn) is ∙ may.writing.1.1));
-        whole = (ap (λ (p : RingPart). p.whole) is ∙ may.whole.0, ap (λ (p : RingPart). p.listed) is ∙ may.whole.1 ∙ ap (λ (p : RingPart). length p.core.seen) (sym is));
-        told = ap (λ (p : RingPart). is_told v.opening.formula (journal_in p.turn) lit) is ∙ may.told;
-        new = ap (λ (p : RingPart). has p.core.seen lit) is ∙ may.new;
-        vars = may.vars;
+        writing = (one ∙ (λ i. sym is i ∷ []), (may.writing.1.0, turn ∙ may.writing.1.1));
+        whole = (
+          ap (λ (p : RingPart). p.whole) is ∙ wholes (only v) ∙ may.whole.0,
+          ap (λ (p : RingPart). p.listed) is ∙ listeds (only v) ∙ may.whole.1 ∙ ap (λ (q : Part). length q.seen) (sym core),
+        );
+        told = (λ i. (book (opening i).formula (journal_in (turn i))).clause number) ∙ may.told;
+        new = ap (λ (q : Part). has q.seen lit) core ∙ may.new;
+        vars = subst (λ (y : Layout). InVars y (lit ∷ [])) (sym layout) may.vars;
       },
     )
 
-pub publish_room : (lit : Literal) (v : View) → Seen v → MayPublish lit v → length (only v).core.seen < 2 * v.layout.vars
-publish_room lit v s may =
+pub still : (lit : Literal) (number n : ℕ) (v : View) → MayPublish lit number v → (only (after_unit n v) ≡ unit_part n (only v)) × MayPublish lit number (after_unit n v)
+still lit number n v may = kept_may (unit_part n) lit number v (after_unit n v) refl refl refl (λ _. refl) (λ _. refl) (λ _. refl) (λ _. refl) may
+
+pub number_still : (lit : Literal) (number n : ℕ) (v : View) → MayPublish lit number v → (only (after_number n v) ≡ number_part n (only v)) × MayPublish lit number (after_number n v)
+number_still lit number n v may = kept_may (number_part n) lit number v (after_number n v) refl refl refl (λ _. refl) (λ _. refl) (λ _. refl) (λ _. refl) may
+
+pub publish_room : (lit : Literal) (number : ℕ) (v : View) → Seen v → MayPublish lit number v → length (only v).core.seen < 2 * v.layout.vars
+publish_room lit number v s may =
     let part : IsPart v.layout s.core s.glue (only v) = s.parts 0 (only v) (ap (λ ps. get_elem? ps 0) may.writing.0) in
-    let ok : Listable v.layout s.core lit v = listable v.layout s.core s.glue lit v (left_sound s.core.opening s.core s.left) part s.standing.units (refl, s.opening) may in
+    let ok : Listable v.layout s.core lit number v = listable v.layout s.core s.glue lit number v (left_sound s.core.opening s.core s.left) part s.standing.units (refl, s.opening) may in
     let room = ok.room in
     let n = ap (λ (us : List Literal). length us) ok.units in
     omega arith

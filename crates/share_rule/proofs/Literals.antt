@@ -7,6 +7,7 @@ use Rattle.std.proofs.lemmas.Map.Steps.{length-le_from_distinct_below}
 use Rattle.sat_words.specs.Literal.{Literal, code_of}
 use Rattle.sat_words.specs.Clause.{has, distinct_lits}
 use Rattle.rup_model.specs.Basics.{one_if}
+use Rattle.share_core.specs.State.{unit_lits}
 
 apart_codes : (vars : ℕ) (k : Literal) (us : List Literal) → 1 ≤ k.var → has us k ≡ false → All (λ k. (1 ≤ k.var) × (k.var ≤ vars)) us → AllByRecursion (λ y. eqb (code_of k - 2) y ≡ false) (map (λ (u : Literal). code_of u - 2) us)
 apart_codes vars k [] low out h = tt
@@ -50,4 +51,11 @@ pub few_distinct : (vars : ℕ) (us : List Literal) → distinct_lits us ≡ tru
 few_distinct vars us d h =
     let n = length-map us (λ (u : Literal). code_of u - 2) in
     let le = length-le_from_distinct_below (map (λ (u : Literal). code_of u - 2) us) (2 * vars) (distinct_codes vars us d h) (codes_below vars us h) in
+    omega arith
+
+-- units given with their numbers
+pub few_paired : (vars : ℕ) (us : List (Literal × ℕ)) → distinct_lits (unit_lits us) ≡ true → All (λ k. (1 ≤ k.var) × (k.var ≤ vars)) (unit_lits us) → length us ≤ 2 * vars
+few_paired vars us d h =
+    let n = length-map us (λ (u : Literal × ℕ). u.0) in
+    let le = few_distinct vars (unit_lits us) d h in
     omega arith

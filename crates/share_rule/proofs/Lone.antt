@@ -21,9 +21,9 @@ stays_lone : (c : State) (e : Event) → IsEnabled c e → IsLone c → IsLone (
 stays_lone c (Grant r) on h = h
 stays_lone c (TakeTurn r) on h = h
 stays_lone c (GiveTurn r) on h = h
-stays_lone c (AddClause r kind lits a) on h = h
-stays_lone c (AddUnit r kind lit) on h = h
-stays_lone c (AddEmpty r) on h = h
+stays_lone c (AddClause r kind lits hints a) on h = h
+stays_lone c (AddUnit r kind lit hints) on h = h
+stays_lone c (AddEmpty r hints) on h = h
 stays_lone c (Reduce r) on h = h
 stays_lone c (OpenCell r a) on h = h
 stays_lone c (Read r a) on h = h
@@ -32,7 +32,7 @@ stays_lone c (DropCount r a) on h = h
 stays_lone c (Bury r a) on h = h
 stays_lone c (Put r to k i a) on h = let one = h.0 in let mine : r < c.opening.rings = on.0 in let other : to < c.opening.rings = on.1 in absurd (on.2 (omega arith))
 stays_lone c (Get r from k i) on h = (h.0, λ s. at_put c.slot (slot_of c.opening from r k i) 0 (λ (n : ℕ). n ≡ 0) s (λ _. refl) (λ _. h.1 s))
-stays_lone c (Publish r lit) on h = h
+stays_lone c (Publish r lit n) on h = h
 stays_lone c (See r) on h = h
 stays_lone c (Stop r kind) on h = h
 stays_lone c (Draw r) on h = h

@@ -123,6 +123,7 @@ module _ (l : Layout) (small : table_words l ≤ 2 ^ 63) (r : ℕ) where
         slot = λ i. refl;
         drawn = refl;
         units = refl;
+        numbers = refl;
         turn = refl;
         stop = refl;
         others = put_else c.part r (wrote_part (length c.journal) e (with_ticket t (c.part r)));
@@ -150,13 +151,13 @@ module _ (l : Layout) (small : table_words l ≤ 2 ^ 63) (r : ℕ) where
     may : (n : Note) → MayNote l o r s.journal s.part n → MayNote l o r c.journal (c.part r) n
     may n h = subst (λ (y : List Entry × Part). MayNote l o r y.0 y.1 n) (λ i. (sh.journal i, sh.part i)) h
 
-    unit_note : (kind : Kind) (lit : Literal) → IsGoing o s.journal → MayNote l o r s.journal s.part (UnitNote kind lit) → Noted l r c glue ((UnitNote kind lit) ∷ []) (noted o r s (UnitNote kind lit))
-    unit_note kind lit going h = let k = may (UnitNote kind lit) h in
-        plain_note (UnitNote kind lit) (ticket_after kind (c.part r).ticket) (addition_of c r kind (lit ∷ [])) (all_one (InVars l) (lit ∷ []) k.2) refl (writes going).going (left_one o c (event.AddUnit r kind lit) left (lt, writes going, k.0, k.1)) refl refl refl sh.held_glues sh.made_glues
+    unit_note : (kind : Kind) (lit : Literal) (hints : List ℕ) → IsGoing o s.journal → MayNote l o r s.journal s.part (UnitNote kind lit hints) → Noted l r c glue ((UnitNote kind lit hints) ∷ []) (noted o r s (UnitNote kind lit hints))
+    unit_note kind lit hints going h = let k = may (UnitNote kind lit hints) h in
+        plain_note (UnitNote kind lit hints) (ticket_after kind (c.part r).ticket) (addition_of c r kind (lit ∷ []) hints) (all_one (InVars l) (lit ∷ []) k.2) refl (writes going).going (left_one o c (event.AddUnit r kind lit hints) left (lt, writes going, k.0, k.1)) refl refl refl sh.held_glues sh.made_glues
 
-    empty_note : IsGoing o s.journal → MayNote l o r s.journal s.part Empty → Noted l r c glue (Empty ∷ []) (noted o r s Empty)
-    empty_note going h = let k = may Empty h in
-        plain_note Empty (c.part r).ticket (addition_of c r Derive []) (all_one (InVars l) [] none_on) refl (writes going).going (left_one o c (event.AddEmpty r) left (lt, writes going, k)) refl refl refl sh.held_glues sh.made_glues
+    empty_note : (hints : List ℕ) → IsGoing o s.journal → MayNote l o r s.journal s.part (Empty hints) → Noted l r c glue ((Empty hints) ∷ []) (noted o r s (Empty hints))
+    empty_note hints going h = let k = may (Empty hints) h in
+        plain_note (Empty hints) (c.part r).ticket (addition_of c r Derive [] hints) (all_one (InVars l) [] none_on) refl (writes going).going (left_one o c (event.AddEmpty r hints) left (lt, writes going, k)) refl refl refl sh.held_glues sh.made_glues
 
     reduce_note : IsGoing o s.journal → MayNote l o r s.journal s.part Reduce → Noted l r c glue (Reduce ∷ []) (noted o r s Reduce)
     reduce_note going h = let k = may Reduce h in
@@ -166,9 +167,9 @@ module _ (l : Layout) (small : table_words l ≤ 2 ^ 63) (r : ℕ) where
     held_below : (h : ClauseAt) → IsCopy c.cell h → h.number < N
     held_below h k = let q = cell_below c sound h.address k.0 k.1 in let e : k.0.number ≡ h.number = k.2 in omega arith
 
-    clause_note : (kind : Kind) (lits : List Literal) (g a : ℕ) → IsGoing o s.journal → MayNote l o r s.journal s.part (Clause kind lits g a) → Noted l r c glue ((Clause kind lits g a) ∷ []) (noted o r s (Clause kind lits g a))
-    clause_note kind lits g a going h =
-        let k = may (Clause kind lits g a) h in
+    clause_note : (kind : Kind) (lits : List Literal) (hints : List ℕ) (g a : ℕ) → IsGoing o s.journal → MayNote l o r s.journal s.part (Clause kind lits hints g a) → Noted l r c glue ((Clause kind lits hints g a) ∷ []) (noted o r s (Clause kind lits hints g a))
+    clause_note kind lits hints g a going h =
+        let k = may (Clause kind lits hints g a) h in
         let long : 2 ≤ length lits = (k.1).long in
         let need : ℕ = words_for (length lits) in
         let fit : first_fit need M.holes ≡ Some a = k.4 in
@@ -179,8 +180,8 @@ module _ (l : Layout) (small : table_words l ≤ 2 ^ 63) (r : ℕ) where
         (λ (t : (x : Cell) × (c.cell a ≡ Some x)). absurd (true≢false (sym is_hole ∙ rs.busy t.0.number a (range a (words_for (length t.0.lits))) (pl.words a t.0 t.1) (within_is a (words_for (length t.0.lits)) a (omega arith) (omega arith)))))
         (cell_cases (c.cell a)) in
         let some : a ≢ 0 = let q = (rs.free a is_hole).0 in λ e. omega arith in
-        let d : State = begun c r kind lits a in
-        let e : Entry = addition_of c r kind lits in
+        let d : State = begun c r kind lits hints a in
+        let e : Entry = addition_of c r kind lits hints in
         let new : Cell = record { lits = lits; number = N; count = 0; maker = Some r } in
         let p' : Part = made_part (record { address = a; number = N; lits = lits }) (length c.journal) e (after_learn kind (c.part r)) in
         let glue' : ℕ → ℕ = put glue N g in
@@ -193,7 +194,7 @@ module _ (l : Layout) (small : table_words l ≤ 2 ^ 63) (r : ℕ) where
           core = d;
           runs = refl;
           glue' = glue';
-          left = left_one o c (event.AddClause r kind lits a) left (lt, writes going, k.0, k.1, free, some, k.2);
+          left = left_one o c (event.AddClause r kind lits hints a) left (lt, writes going, k.0, k.1, free, some, k.2);
           places = record {
             rings = pl.rings;
             depth = pl.depth;
@@ -224,6 +225,7 @@ module _ (l : Layout) (small : table_words l ≤ 2 ^ 63) (r : ℕ) where
             slot = λ i. refl;
             drawn = refl;
             units = refl;
+            numbers = refl;
             turn = refl;
             stop = refl;
             others = put_else c.part r p';
@@ -237,8 +239,8 @@ module _ (l : Layout) (small : table_words l ≤ 2 ^ 63) (r : ℕ) where
             glue_else = λ n low. put_else glue N g n (λ q. omega arith);
           };
           sheet = record {
-            journal = λ i. sh.journal i ++ entry_of o r (sh.journal i) (sh.part i) (Clause kind lits g a) ∷ [];
-            part = (λ i. noted_core o r (sh.journal i) (Clause kind lits g a) (sh.part i)) ∙ sym (put_here c.part r p');
+            journal = λ i. sh.journal i ++ entry_of o r (sh.journal i) (sh.part i) (Clause kind lits hints g a) ∷ [];
+            part = (λ i. noted_core o r (sh.journal i) (Clause kind lits hints g a) (sh.part i)) ∙ sym (put_here c.part r p');
             held_glues = all_map (λ (h : ClauseAt). glue_in h.number s.glues ≡ glue h.number) (λ (h : ClauseAt). glue_in h.number (record { number = next_number o s.journal; glue = g } ∷ s.glues) ≡ glue' h.number) s.part.held
                 (λ x i was. else_glue x (all_in (IsCopy c.cell) s.part.held x i (subst (λ (p : Part). All (IsCopy c.cell) p.held) (sym sh.part) (sound.copies.held r lt))) was) sh.held_glues;
             made_glues = all_more (λ (h : ClauseAt). glue_in h.number (record { number = next_number o s.journal; glue = g } ∷ s.glues) ≡ glue' h.number) s.part.making (record { address = a; number = next_number o s.journal; lits = lits })
@@ -302,6 +304,7 @@ module _ (l : Layout) (small : table_words l ≤ 2 ^ 63) (r : ℕ) where
             slot = λ i. refl;
             drawn = refl;
             units = refl;
+            numbers = refl;
             turn = refl;
             stop = refl;
             others = put_else c.part r p';
@@ -332,9 +335,9 @@ module _ (l : Layout) (small : table_words l ≤ 2 ^ 63) (r : ℕ) where
         idle (Some i) n h = absurd (omega arith)
 
     one_note : (n : Note) → IsGoing o s.journal → MayNote l o r s.journal s.part n → Noted l r c glue (n ∷ []) (noted o r s n)
-    one_note (Clause kind lits g a) going h = clause_note kind lits g a going h
-    one_note (UnitNote kind lit) going h = unit_note kind lit going h
-    one_note Empty going h = empty_note going h
+    one_note (Clause kind lits hints g a) going h = clause_note kind lits hints g a going h
+    one_note (UnitNote kind lit hints) going h = unit_note kind lit hints going h
+    one_note (Empty hints) going h = empty_note hints going h
     one_note Reduce going h = reduce_note going h
     one_note (Bury a) going h = bury_note a going h
 

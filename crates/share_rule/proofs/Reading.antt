@@ -1,9 +1,8 @@
 -- What the words of a table at its end tell.
-use Rattle.std.proofs.Common.{◌≡◌, ◌≢◌, ◌⊎◌, ℕ, zero, suc, ◌+◌, ◌*◌, ◌/◌, ◌^◌, ◌<◌, ◌≤◌, ◌==◌, true, false, List, [], ◌∷◌, ◌++◌, map, length, get_or, All, refl, sym, ap, ◌∙◌, subst, arith, eq-eqb, ne_eqb, true≢false, ⊎_elim, inl, inr, Option, Some, None}
+use Rattle.std.proofs.Common.{◌≡◌, ◌≢◌, ◌⊎◌, ℕ, suc, ◌+◌, ◌*◌, ◌^◌, ◌<◌, ◌≤◌, ◌==◌, true, false, List, [], ◌∷◌, ◌++◌, map, length, get_or, refl, sym, ap, ◌∙◌, subst, arith, ne_eqb, true≢false, ⊎_elim, inl, inr, Some, None}
 use Rattle.std.specs.Prelude.{◌-◌, ◌||◌, Bool, nat_eq, nat_le, Contains}
 use Rattle.std.specs.List.{IsDistinct, list_any}
-use Rattle.std.specs.List.Sorted.{IsPermutation, IsNonDecreasingBy, IsNonDecreasing, IsStrictlySortedBy}
-use Rattle.std.specs.Ordering.{nat_cmp}
+use Rattle.std.specs.List.Sorted.{IsPermutation, IsNonDecreasingBy, IsNonDecreasing}
 use Rattle.std.proofs.lemmas.Bool.Decides.{leb_tells, eqb_tells}
 use Rattle.std.proofs.lemmas.Cmp.{nat_eq_equiv}
 use Rattle.std.proofs.lemmas.List.{map-append, length-map, get_or-map}
@@ -12,14 +11,14 @@ use Rattle.std.proofs.lemmas.List.Sorted.{All-permutation, Contains-permutation,
 use Rattle.std.proofs.lemmas.Map.Keys.{IsDistinct-push, IsDistinct-IsPermutation, IsStrictlyIncreasing-from_distinct, sorted_from_strictly_increasing}
 use Rattle.clause_cell.specs.declared.holes.Hole.{Hole}
 use Rattle.clause_cell.specs.Packing.{words_for}
-use Rattle.clause_cell.specs.Free.{is_free, is_within, is_apart, range, len_from}
+use Rattle.clause_cell.specs.Free.{is_free, is_apart, range, len_from}
 use Rattle.clause_cell.proofs.Starting.{hole_from, not_free_next}
 use Rattle.share_core.specs.declared.stored.Cell.{Cell}
 use Rattle.share_core.specs.State.{State}
 use Rattle.share_core.proofs.Counting.{some_same}
 use Rattle.share_rule.specs.declared.Layout.{Layout}
 use Rattle.share_rule.specs.declared.rests.Rest.{Rest}
-use Rattle.share_rule.specs.Layout.{first_cell, cells_end, table_words}
+use Rattle.share_rule.specs.Layout.{first_cell, cells_end}
 use Rattle.share_rule.specs.Room.{room}
 use Rattle.share_rule.specs.Rests.{rest_of, IsRestBefore, IsRest, AreRests, IsAtEnd, HasHoles, AreRestsBefore}
 use Rattle.share_rule.specs.Seen.{Stands}

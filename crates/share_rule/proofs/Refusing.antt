@@ -45,11 +45,11 @@ cause_of c r Derive lits s lt may =
 cause_of c r UnitLine lits s lt may = absurd may
 
 -- a clause that may be added after a turn's notes, and finds no hole
-pub turn_tight : (v : View) (ns : List Note) (kind : Kind) (lits : List Literal) (need most : ℕ) → Seen v → IsWriting v → MayWrite v ns
-    → MayAddClause v.opening (written_of v ns).journal (written_of v ns).part (ring_of (only v)) kind lits → IsLong lits → follows (written_of v ns).part lits ≡ true → InVars v.layout lits
+pub turn_tight : (v : View) (ns : List Note) (kind : Kind) (lits : List Literal) (hints : List ℕ) (need most : ℕ) → Seen v → IsWriting v → MayWrite v ns
+    → MayAddClause v.opening (written_of v ns).journal (written_of v ns).part (ring_of (only v)) kind lits → IsLong lits → follows v.opening.hinted (written_of v ns).part lits hints ≡ true → InVars v.layout lits
     → need ≡ words_for (length lits) → most ≡ largest (room v.layout v.opening (written_of v ns).journal).holes → most < need
     → IsTight v.layout v.opening (written_of v ns).journal need most
-turn_tight v ns kind lits need most s w may add long from on need_is most_is short =
+turn_tight v ns kind lits hints need most s w may add long from on need_is most_is short =
     let r : ℕ = ring_of (only v) in
     let n : Noted v.layout r s.core s.glue ns (written_of v ns) = written_core v s w ns may in
     let c : State = n.core in
@@ -60,7 +60,7 @@ turn_tight v ns kind lits need most s w may add long from on need_is most_is sho
     let J : List Entry = (written_of v ns).journal in
     let add_there : MayAddClause c.opening c.journal (c.part r) r kind lits =
     subst (λ (y : CoreOpening × (List Entry × Part)). MayAddClause y.0 y.1.0 y.1.1 r kind lits) (λ i. (sym opening i, (n.sheet.journal i, n.sheet.part i))) add in
-    let from_there : follows (c.part r) lits ≡ true = ap (λ (p : Part). follows p lits) (sym n.sheet.part) ∙ from in
+    let from_there : follows c.opening.hinted (c.part r) lits hints ≡ true = (λ i. follows (opening i).hinted (sym n.sheet.part i) lits hints) ∙ from in
     let back : (P : CoreOpening → List Entry → Type 0) → P c.opening c.journal → P v.opening J = λ P h. subst (λ (y : CoreOpening × List Entry). P y.0 y.1) (λ i. (opening i, sym n.sheet.journal i)) h in
     let begun : length v.opening.journal ≤ length J = back (λ o K. length o.journal ≤ length K) (begins_long c sound) in
     inl (
@@ -73,7 +73,7 @@ turn_tight v ns kind lits need most s w may add long from on need_is most_is sho
         next = record {
           long = long;
           on = on;
-          valid = back (λ o K. rup (alive o.formula (lines o.formula K)) lits ≡ true) (follows_alive c r lits sound lt from_there);
+          valid = back (λ o K. rup (alive o.formula (lines o.formula K)) lits ≡ true) (follows_alive c r lits hints sound lt from_there);
           cause = back (λ o K. IsFreshForSome o K lits ⊎ IsPartOfAlive o K lits) (cause_of c r kind lits sound lt add_there);
         };
         need_is = need_is;

@@ -47,6 +47,7 @@ pub record Beside (r : ℕ) (c d : State) (glue glue' : ℕ → ℕ) : Type 0 wh
   pub slot : (i : ℕ) → d.slot i ≡ c.slot i
   pub drawn : d.drawn ≡ c.drawn
   pub units : d.units ≡ c.units
+  pub numbers : d.numbers ≡ c.numbers
   pub turn : d.turn ≡ c.turn
   pub stop : d.stop ≡ c.stop
   pub others : (i : ℕ) → i ≢ r → d.part i ≡ c.part i
@@ -58,7 +59,7 @@ pub record Beside (r : ℕ) (c d : State) (glue glue' : ℕ → ℕ) : Type 0 wh
   pub glue_else : (n : ℕ) → n < next_number c.opening c.journal → glue' n ≡ glue n
 
 pub beside_same : (r : ℕ) (c : State) (glue : ℕ → ℕ) → Beside r c c glue glue
-beside_same r c glue = record { opening = refl; granted = λ i. refl; slot = λ i. refl; drawn = refl; units = refl; turn = refl; stop = refl; others = λ i n. refl; open_cells = λ a x is o. is; built = λ a i x is m. is; counted = λ a x is n. is; next = omega arith; refused = λ _ _ x e. e; glue_else = λ n lt. refl }
+beside_same r c glue = record { opening = refl; granted = λ i. refl; slot = λ i. refl; drawn = refl; units = refl; numbers = refl; turn = refl; stop = refl; others = λ i n. refl; open_cells = λ a x is o. is; built = λ a i x is m. is; counted = λ a x is n. is; next = omega arith; refused = λ _ _ x e. e; glue_else = λ n lt. refl }
 
 pub beside_both : (r : ℕ) (b c d : State) (g h k : ℕ → ℕ) → Beside r b c g h → Beside r c d h k → Beside r b d g k
 beside_both r b c d g h k x y = record {
@@ -67,6 +68,7 @@ beside_both r b c d g h k x y = record {
   slot = λ i. y.slot i ∙ x.slot i;
   drawn = y.drawn ∙ x.drawn;
   units = y.units ∙ x.units;
+  numbers = y.numbers ∙ x.numbers;
   turn = y.turn ∙ x.turn;
   stop = y.stop ∙ x.stop;
   others = λ i n. y.others i n ∙ x.others i n;

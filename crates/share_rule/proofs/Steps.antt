@@ -101,6 +101,7 @@ module _ {S : Type 0} (stands : S → BookOrigin → Layout → CoreOpening → 
       let glues : All (λ (h' : ClauseAt). glue_in h'.number p.glues ≡ h.glue h'.number) (dropped_part (clause_in a p.core.held) n p.core).held =
       all_without (λ (h' : ClauseAt). glue_in h'.number p.glues ≡ h.glue h'.number) (clause_in a p.core.held).address p.core.held part.glues in
       let lo : first_cell l ≤ a = ((standing_of stands l s h).inside a x is.1).0 in
+      let hi = ((standing_of stands l s h).inside a x is.1).1 in
       moved stands l s h d h.glue id v w (drop_part a n p) (set s.words a m) s.homes at
       (left_one c.opening c (DropCount r a) h.left (part.ring, held))
       (places_recounted l c (standing_of stands l s h) a (count_at (c.cell a) - 1) x is.1 r q' h.places)
@@ -110,11 +111,11 @@ module _ {S : Type 0} (stands : S → BookOrigin → Layout → CoreOpening → 
       (record { ring = part.ring; part = new ∙ sym (put_here c.part r q'); glues = glues; made_glues = part.made_glues; turn = part.turn; listed = part.listed; whole = part.whole; refused = part.refused; set = part.set; ended_is = part.ended_is; given = given_same c d r p.gave refl stays.slots stays.clauses part.given })
       (λ y _ z. (
         subst (λ (u : ℕ). IsStored d (set s.words a u) (ring_of y) y.stored) (sym m_is) (recount_stored l c (standing_of stands l s h) a (count_at (c.cell a) - 1) x is.1 r q' s.words (ring_of y) y.stored (λ y' e mk. no_maker y' x (ring_of y) (sym e ∙ is.1) is.2 mk) z.0),
-        unit_kept l c d s.words a m y refl refl (λ k' lt e. omega arith) z.1,
+        unit_kept l c d s.words a m y refl refl (λ k' lt. ((λ e. omega arith), (λ e. omega arith))) z.1,
       ))
       (let own = h.stored id v 0 p at (ap (λ ps. get_elem? ps 0) holding.0) in (
         subst (λ (u : ℕ). IsStored d (set s.words a u) r p.stored) (sym m_is) (recount_stored l c (standing_of stands l s h) a (count_at (c.cell a) - 1) x is.1 r q' s.words r p.stored (λ y' e mk. no_maker y' x r (sym e ∙ is.1) is.2 mk) own.0),
-        unit_kept l c d s.words a m p refl refl (λ k' lt e. omega arith) own.1,
+        unit_kept l c d s.words a m p refl refl (λ k' lt. ((λ e. omega arith), (λ e. omega arith))) own.1,
       ))
 
   pub drops : (slots id : ℕ) (me : Me (Option S) View) (a : ℕ) → is_ready me.0.stage ≡ true → IsHolding a me.0
@@ -158,6 +159,7 @@ module _ {S : Type 0} (stands : S → BookOrigin → Layout → CoreOpening → 
       all_more (λ (h' : ClauseAt). glue_in h'.number p.glues ≡ h.glue h'.number) p.core.held (clause_in a p.core.held) part.glues
       (all_in (λ (h' : ClauseAt). glue_in h'.number p.glues ≡ h.glue h'.number) p.core.held (clause_in a p.core.held) f.0 part.glues) in
       let lo : first_cell l ≤ a = ((standing_of stands l s h).inside a x is.1).0 in
+      let hi = ((standing_of stands l s h).inside a x is.1).1 in
       moved stands l s h d h.glue id v w (share_part a p) (set s.words a m) s.homes at
       (left_one c.opening c (Share r a) h.left (part.ring, held, room'))
       (places_recounted l c (standing_of stands l s h) a (count_at (c.cell a) + 1) x is.1 r q' h.places)
@@ -167,11 +169,11 @@ module _ {S : Type 0} (stands : S → BookOrigin → Layout → CoreOpening → 
       (record { ring = part.ring; part = new ∙ sym (put_here c.part r q'); glues = glues; made_glues = part.made_glues; turn = part.turn; listed = part.listed; whole = part.whole; refused = part.refused; set = part.set; ended_is = part.ended_is; given = given_same c d r p.gave refl stays.slots stays.clauses part.given })
       (λ y _ z. (
         subst (λ (u : ℕ). IsStored d (set s.words a u) (ring_of y) y.stored) (sym m_is) (recount_stored l c (standing_of stands l s h) a (count_at (c.cell a) + 1) x is.1 r q' s.words (ring_of y) y.stored (λ y' e mk. no_maker y' x (ring_of y) (sym e ∙ is.1) is.2 mk) z.0),
-        unit_kept l c d s.words a m y refl refl (λ k' lt e. omega arith) z.1,
+        unit_kept l c d s.words a m y refl refl (λ k' lt. ((λ e. omega arith), (λ e. omega arith))) z.1,
       ))
       (let own = h.stored id v 0 p at (ap (λ ps. get_elem? ps 0) holding.0) in (
         subst (λ (u : ℕ). IsStored d (set s.words a u) r p.stored) (sym m_is) (recount_stored l c (standing_of stands l s h) a (count_at (c.cell a) + 1) x is.1 r q' s.words r p.stored (λ y' e mk. no_maker y' x r (sym e ∙ is.1) is.2 mk) own.0),
-        unit_kept l c d s.words a m p refl refl (λ k' lt e. omega arith) own.1,
+        unit_kept l c d s.words a m p refl refl (λ k' lt. ((λ e. omega arith), (λ e. omega arith))) own.1,
       ))
     where
       few_counts : (n' count rings total : ℕ) → n' ≡ count → count ≤ rings + total → total ≤ rings * MAX_SHARES → rings ≤ 16 → (n' + 1) % 2 ^ 64 ≡ count + 1

@@ -163,8 +163,8 @@ module _ {S : Type 0} (stands : S → BookOrigin → Layout → CoreOpening → 
         ended_is = part.ended_is;
         given = given_same c d (ring_of p) p.gave refl (λ _. refl) (λ _. refl) part.given;
       })
-      (λ y _ z. low_out l c d s.words 1 code y st low_word (λ _. refl) refl refl (λ k' lt e. omega arith) z)
-      (low_out l c d s.words 1 code (set_part t p) st low_word (λ _. refl) refl refl (λ k' lt e. omega arith) (h.stored id v 0 p at (ap (λ ps. get_elem? ps 0) ring.0)))
+      (λ y _ z. low_out l c d s.words 1 code y st low_word (λ _. refl) refl refl (λ k' lt. ((λ e. omega arith), (λ e. omega arith))) z)
+      (low_out l c d s.words 1 code (set_part t p) st low_word (λ _. refl) refl refl (λ k' lt. ((λ e. omega arith), (λ e. omega arith))) (h.stored id v 0 p at (ap (λ ps. get_elem? ps 0) ring.0)))
     where
       one_set : (i : ℕ) (q : RingPart) → get_elem? (set_part (stop_in (kind + 8 * r)) (only v) ∷ []) i ≡ some q → (u : Stop) → q.set ≡ Some u → Some (stop_in (kind + 8 * r)) ≡ Some u
       one_set zero q e u is = ap (λ (y : RingPart). y.set) (some-injective (set_part (stop_in (kind + 8 * r)) (only v)) q e) ∙ is

@@ -15,7 +15,7 @@ use Rattle.share_core.specs.declared.part.CoreOpening.{CoreOpening}
 use Rattle.share_core.specs.declared.part.Part.{Part}
 use Rattle.share_core.specs.declared.stored.Cell.{Cell}
 use Rattle.share_core.specs.State.{State}
-use Rattle.share_core.specs.Events.{after}
+use Rattle.share_core.specs.Events.{after, listed_number}
 use Rattle.share_core.specs.Sound.{Sound}
 use Rattle.share_core.proofs.Counting.{some_same, none_some}
 use Rattle.share_rule.specs.declared.view.BookOrigin.{BookOrigin}
@@ -27,7 +27,7 @@ use Rattle.share_rule.specs.declared.view.Taken.{Taken}
 use Rattle.share_rule.specs.declared.view.RingPart.{RingPart}
 use Rattle.share_rule.specs.declared.view.StoredWord.{StoredWord}
 use Rattle.share_rule.specs.declared.view.View.{View}
-use Rattle.share_rule.specs.Layout.{grant_at, unit_at, slot_at, ticket_at}
+use Rattle.share_rule.specs.Layout.{grant_at, unit_at, number_at, slot_at, ticket_at}
 use Rattle.share_rule.specs.Cells.{Spells}
 use Rattle.share_core.specs.declared.event.Stop.{Stop}
 use Rattle.rup_model.specs.Journal.{ended}
@@ -40,7 +40,7 @@ use Rattle.share_rule.specs.Shown.{Words, Fits, Shown, Shows, IsStored, IsOut, U
 use Rattle.share_rule.specs.Turns.{event_of, sheet_after, AllNoted, journal_in, IsFree, IsWriting, sheet_of, written_of, MayWrite, WasRefused, newer, take_part, give_part, after_take, after_miss, after_give}
 use Rattle.share_rule.specs.TurnsTold.{takes_turn, gives_turn}
 use Rattle.share_rule.proofs.Parts.{cell_below, is_open, standing_of, seen_of}
-use Rattle.share_rule.proofs.Words.{spells_else}
+use Rattle.share_rule.proofs.Words.{spells_else, none_out, turn_out}
 use Rattle.share_rule.proofs.Sheets.{Beside, Noted, IsSheet, noted_given}
 use Rattle.share_rule.proofs.Noting.{all_notes}
 use Rattle.share_rule.proofs.Telling.{told_one, only_told, told_here}
@@ -49,10 +49,10 @@ use Rattle.share_rule.proofs.Lists.{at_in, set_itself}
 
 -- the first word changes, and cells that are not open
 pub turn_words : (l : Layout) (c d : State) (glue glue' : ℕ → ℕ) (ws : List ℕ) (n : ℕ) → Stands l c → Words l c glue ws → n ≡ 256 * length d.journal + turn_number d.turn
-    → d.stop ≡ c.stop → d.units ≡ c.units → ((i : ℕ) → d.granted i ≡ c.granted i) → ((i : ℕ) → d.slot i ≡ c.slot i) → d.drawn ≡ c.drawn
+    → d.stop ≡ c.stop → d.units ≡ c.units → d.numbers ≡ c.numbers → ((i : ℕ) → d.granted i ≡ c.granted i) → ((i : ℕ) → d.slot i ≡ c.slot i) → d.drawn ≡ c.drawn
     → ((a : ℕ) (x : Cell) → d.cell a ≡ Some x → x.maker ≡ None → (c.cell a ≡ Some x) × (glue' x.number ≡ glue x.number))
     → Words l d glue' (set ws 0 n)
-turn_words l c d glue glue' ws n st w n_is stop units grants slots_are drawn cells =
+turn_words l c d glue glue' ws n st w n_is stop units numbers grants slots_are drawn cells =
     let wide = w.wide in
     let in_ws : 0 < length ws = omega arith in
     record {
@@ -64,6 +64,7 @@ turn_words l c d glue glue' ws n st w n_is stop units grants slots_are drawn cel
       unit_is = λ k lt. get_or-set_other ws 0 (unit_at l k) n 0 (λ e. omega arith) ∙ w.unit_is k (subst (λ (us : List Literal). k < length us) units lt) ∙ ap (λ (us : List Literal). slice_index_or (map code_of us) k 0) (sym units);
       slot_is = λ k lt. get_or-set_other ws 0 (slot_at l k) n 0 (λ e. omega arith) ∙ w.slot_is k lt ∙ sym (slots_are k);
       ticket_is = get_or-set_other ws 0 (ticket_at l) n 0 (λ e. omega arith) ∙ w.ticket_is ∙ sym drawn;
+      number_is = λ k lt. get_or-set_other ws 0 (number_at l k) n 0 (λ e. omega arith) ∙ w.number_is k (subst (λ (us : List Literal). k < length us) units lt) ∙ ap (λ (ns : List ℕ). listed_number ns k) (sym numbers);
       count_is = λ b y e o. let q = cells b y e o in let at = (st.inside b y q.0).0 in get_or-set_other ws 0 b n 0 (λ e. omega arith) ∙ w.count_is b y q.0 o;
       cell_is = λ b y e o. let q = cells b y e o in let at = (st.inside b y q.0).0 in
           subst (λ (g : ℕ). Spells (set ws 0 n) b y.number g y.lits) (sym q.1) (spells_else ws 0 n b y.number (glue y.number) y.lits (λ i some it z. omega arith) (w.cell_is b y q.0 o));
@@ -103,7 +104,7 @@ module _ {S : Type 0} (stands : S → BookOrigin → Layout → CoreOpening → 
       moved_with stands l s h d h.glue id v (after_take free new c.journal h.fault v) (take_part c.journal h.fault p) (set s.words 0 new) (set s.homes 0 maybe.none) at
       (left_one c.opening c (TakeTurn r) h.left (part.ring, none))
       (record { rings = h.places.rings; depth = h.places.depth; limit = h.places.limit; small = h.places.small; words = h.places.words; only = h.places.only; tiled = h.places.tiled; vars = h.places.vars; starts = h.places.starts; entries = h.places.entries; units = h.places.units; few = h.places.few; first = h.places.first })
-      (turn_words l c d h.glue h.glue s.words new st h.words new_is refl refl (λ _. refl) (λ _. refl) refl (λ a x is o. (is, refl)))
+      (turn_words l c d h.glue h.glue s.words new st h.words new_is refl refl refl (λ _. refl) (λ _. refl) refl (λ a x is o. (is, refl)))
       (record {
         opening = refl;
         granted = λ _ _. refl;
@@ -122,8 +123,8 @@ module _ {S : Type 0} (stands : S → BookOrigin → Layout → CoreOpening → 
       (λ _. refl) h.fault (λ e. absurd (none_some r (sym e))) free_pass.0 refl (ap (on_first (take_part c.journal h.fault)) free_pass.0) refl refl refl refl refl
       (stops_same c.stop v (after_take free new c.journal h.fault v) (take_part c.journal h.fault p) free_pass.0 (ap (on_first (take_part c.journal h.fault)) free_pass.0) refl refl (h.each id v at).stops)
       (record { ring = part.ring; part = part.part; glues = part.glues; made_glues = part.made_glues; turn = sym (turn_some d r refl); listed = part.listed; whole = λ e. absurd (true≢false (sym e)); refused = λ x e. refused_more l c.opening c.journal p.failed h.fault knew.told x (part.refused x e); set = part.set; ended_is = part.ended_is; given = given_same c d r p.gave refl (λ _. refl) (λ _. refl) part.given })
-      (λ y ne z. (turn_stored l c d s.words new (ring_of y) y.stored st (λ _ _ _ is _. is) z.0, λ n e. absurd (none_some (ring_of y) (sym none ∙ (z.1 n e).0))))
-      (turn_stored l c d s.words new r p.stored st (λ _ _ _ is _. is) own.0, λ n e. absurd (none_some r (sym none ∙ (own.1 n e).0)))
+      (λ y ne z. (turn_stored l c d s.words new (ring_of y) y.stored st (λ _ _ _ is _. is) z.0, turn_out l c d s.words (set s.words 0 new) y (λ e. none_some (ring_of y) (sym none ∙ e)) z.1))
+      (turn_stored l c d s.words new r p.stored st (λ _ _ _ is _. is) own.0, turn_out l c d s.words (set s.words 0 new) p (λ e. none_some r (sym none ∙ e)) own.1)
       (λ _ _ _ z. z) (record { told = λ e. e; taken = λ t _ e. e })
       (λ e. told_here s.views id v (after_take free new c.journal h.fault v) at (told_one (after_take free new c.journal h.fault v).parts (take_part c.journal h.fault p) (ap (on_first (take_part c.journal h.fault)) free_pass.0) e))
 
@@ -237,7 +238,7 @@ module _ {S : Type 0} (stands : S → BookOrigin → Layout → CoreOpening → 
       let next = moved_with stands l s h d all.glue' id v (after_give ns x failed v) (give_part v.opening (written_of v ns) x failed p) (set s.words 0 n) (set s.homes 0 (some (Some b))) at
       (left_one m.opening m (GiveTurn r) all.left (lt, turn))
       (record { rings = all.places.rings; depth = all.places.depth; limit = all.places.limit; small = all.places.small; words = all.places.words; only = all.places.only; tiled = all.places.tiled; vars = all.places.vars; starts = all.places.starts; entries = all.places.entries; units = all.places.units; few = all.places.few; first = all.places.first })
-      (turn_words l c d h.glue all.glue' s.words n st h.words n_is beside.stop beside.units beside.granted beside.slot beside.drawn
+      (turn_words l c d h.glue all.glue' s.words n st h.words n_is beside.stop beside.units beside.numbers beside.granted beside.slot beside.drawn
       (λ a y is o. let was = beside.open_cells a y is o in (was, beside.glue_else y.number (below a y was))))
       (record {
         opening = beside.opening;
@@ -271,8 +272,8 @@ module _ {S : Type 0} (stands : S → BookOrigin → Layout → CoreOpening → 
         ended_is = λ e. now_ended d.opening d.journal p.ended (λ was. beside.refused l failed Ended (part.ended_is was)) (ap (λ (b : Bool). p.ended || b) (λ i. ended ((beside.opening ∙ sym t.1) i).formula (sym sheet.journal i)) ∙ e);
         given = subst (λ (i : ℕ). HasGiven d i p.gave) (sym same_ring) (noted_given r c m h.glue all.glue' r p.gave sound beside part.ring part.given);
       })
-      (λ y ne z. (turn_stored l c d s.words n (ring_of y) y.stored st beside.built z.0, λ q e. absurd (ne (some_same (ring_of y) r (sym (z.1 q e).0 ∙ on.0)))))
-      (subst (λ (q : ℕ). IsStored d (set s.words 0 n) q p.stored) (sym same_ring) (turn_stored l c d s.words n r p.stored st beside.built own.0), λ q e. absurd (none_some q e))
+      (λ y ne z. (turn_stored l c d s.words n (ring_of y) y.stored st beside.built z.0, turn_out l c d s.words (set s.words 0 n) y (λ e. ne (some_same (ring_of y) r (sym e ∙ on.0))) z.1))
+      (subst (λ (q : ℕ). IsStored d (set s.words 0 n) q p.stored) (sym same_ring) (turn_stored l c d s.words n r p.stored st beside.built own.0), none_out l d (set s.words 0 n) (give_part v.opening (written_of v ns) x failed p) refl refl)
       (λ y ne is z. record { told = λ e. still (z.told e); taken = λ t' e _. absurd (none_some t' (sym (turn_none d (ring_of y) refl) ∙ sym is.turn ∙ e)) })
       (record { told = λ e. e; taken = λ t' e _. absurd (none_some t' e) })
       (λ e. told_here s.views id v (after_give ns x failed v) at (told_one (after_give ns x failed v).parts (give_part v.opening (written_of v ns) x failed p) (ap (on_first (give_part v.opening (written_of v ns) x failed)) writing.0) e)) in

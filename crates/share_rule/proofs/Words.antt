@@ -13,14 +13,14 @@ use Rattle.share_core.specs.declared.part.Part.{Part}
 use Rattle.share_core.specs.Events.{with_count, recounted}
 use Rattle.share_core.proofs.Counting.{some_same, none_some}
 use Rattle.share_rule.specs.declared.Layout.{Layout}
-use Rattle.share_rule.specs.Layout.{grant_at, unit_at, slot_at, ticket_at, first_cell, cells_end}
+use Rattle.share_rule.specs.Layout.{grant_at, unit_at, number_at as unit_number_at, slot_at, ticket_at, first_cell, cells_end}
 use Rattle.share_rule.specs.Cells.{Spells}
 use Rattle.clause_cell.specs.Packing.{lit_word, cell_word}
 use Rattle.share_rule.specs.Seen.{Stands}
 use Rattle.share_rule.specs.Layout.{InVars}
 use Rattle.share_rule.specs.Room.{room, Places}
 use Rattle.clause_cell.specs.Free.{range, is_within}
-use Rattle.share_rule.specs.Shown.{Words, IsStored, UnitOut, Builds}
+use Rattle.share_rule.specs.Shown.{Words, IsStored, StandsNext, UnitOut, Builds, ring_of}
 use Rattle.share_rule.specs.declared.view.RingPart.{RingPart}
 use Rattle.share_rule.proofs.Rooms.{within_is}
 use Rattle.share_rule.specs.declared.view.StoredWord.{StoredWord}
@@ -131,6 +131,7 @@ module _ (l : Layout) (c : State) (st : Stands l c) (a n : ℕ) (x : Cell) (is :
         unit_is = λ k lt. get_or-set_other ws a (unit_at l k) n 0 (λ e. omega arith) ∙ w.unit_is k lt;
         slot_is = λ k lt. get_or-set_other ws a (slot_at l k) n 0 (λ e. omega arith) ∙ w.slot_is k lt;
         ticket_is = get_or-set_other ws a (ticket_at l) n 0 (λ e. omega arith) ∙ w.ticket_is;
+        number_is = λ k kt. get_or-set_other ws a (unit_number_at l k) n 0 (λ e. omega arith) ∙ w.number_is k kt;
         count_is = λ b y e o. ⊎_elim
             (λ (t : (b ≡ a) × (y ≡ record { lits = x.lits; number = x.number; count = n; maker = None })). ap (slice_index (set ws a n)) t.0 ∙ get_or-set_same ws a n 0 in_ws ∙ ap (λ (k : Cell). k.count) (sym t.1))
             (λ (t : (b ≢ a) × (c.cell b ≡ Some y)). get_or-set_other ws a b n 0 t.0 ∙ w.count_is b y t.1 o)
@@ -171,12 +172,23 @@ module _ (l : Layout) (c : State) (st : Stands l c) (a n : ℕ) (x : Cell) (is :
           true≢false (sym (within_is a (words_for (length x.lits)) w (omega arith) (omega arith)) ∙ out)
 
 -- the word that a ring stored for the next unit stays
-pub unit_kept : (l : Layout) (c d : State) (ws : List ℕ) (w n : ℕ) (p : RingPart) → d.turn ≡ c.turn → d.units ≡ c.units → ((k : ℕ) → k < 2 * l.vars → unit_at l k ≢ w) → UnitOut l c ws p → UnitOut l d (set ws w n) p
-unit_kept l c d ws w n p t us far h = λ m e. let u = h m e in (
-  t ∙ u.0,
-  subst (λ (xs : List Literal). length xs < 2 * l.vars) (sym us) u.1,
-  ap (λ (xs : List Literal). slice_index (set ws w n) (unit_at l (length xs))) us ∙ get_or-set_other ws w (unit_at l (length c.units)) n 0 (λ q. far (length c.units) u.1 q) ∙ u.2,
-)
+pub unit_kept : (l : Layout) (c d : State) (ws : List ℕ) (w n : ℕ) (p : RingPart) → d.turn ≡ c.turn → d.units ≡ c.units → ((k : ℕ) → k < 2 * l.vars → (unit_at l k ≢ w) × (unit_number_at l k ≢ w)) → UnitOut l c ws p → UnitOut l d (set ws w n) p
+unit_kept l c d ws w n p t us far h = (kept (unit_at l) p.unit (λ k lt. (far k lt).0) h.0, kept (unit_number_at l) p.number (λ k lt. (far k lt).1) h.1)
+  where
+    kept : (at : ℕ → ℕ) (o : Option ℕ) → ((k : ℕ) → k < 2 * l.vars → at k ≢ w) → StandsNext l c ws (ring_of p) (at (length c.units)) o → StandsNext l d (set ws w n) (ring_of p) (at (length d.units)) o
+    kept at o clear h = λ m e. let u = h m e in (
+      t ∙ u.0,
+      subst (λ (xs : List Literal). length xs < 2 * l.vars) (sym us) u.1,
+      ap (λ (xs : List Literal). slice_index (set ws w n) (at (length xs))) us ∙ get_or-set_other ws w (at (length c.units)) n 0 (λ q. clear (length c.units) u.1 q) ∙ u.2,
+    )
+
+-- a ring that has stored nothing of the next unit has nothing out
+pub none_out : (l : Layout) (d : State) (ws : List ℕ) (p : RingPart) → p.unit ≡ None → p.number ≡ None → UnitOut l d ws p
+none_out l d ws p no_unit no_number = (λ m e. absurd (none_some m (sym no_unit ∙ e)), λ m e. absurd (none_some m (sym no_number ∙ e)))
+
+-- and so has one that has not the turn
+pub turn_out : (l : Layout) (c d : State) (ws xs : List ℕ) (p : RingPart) → c.turn ≢ Some (ring_of p) → UnitOut l c ws p → UnitOut l d xs p
+turn_out l c d ws xs p ne h = (λ m e. absurd (ne (h.0 m e).0), λ m e. absurd (ne (h.1 m e).0))
 
 -- one grant changes
 pub grant_words : (l : Layout) (c : State) (glue : ℕ → ℕ) (ws : List ℕ) (r : ℕ) (p : Part) → Stands l c → r < l.rings → Words l c glue ws
@@ -196,6 +208,7 @@ grant_words l c glue ws r p st lt w =
       unit_is = λ k kt. get_or-set_other ws (grant_at r) (unit_at l k) 0 0 (λ e. omega arith) ∙ w.unit_is k kt;
       slot_is = λ k kt. get_or-set_other ws (grant_at r) (slot_at l k) 0 0 (λ e. omega arith) ∙ w.slot_is k kt;
       ticket_is = get_or-set_other ws (grant_at r) (ticket_at l) 0 0 (λ e. omega arith) ∙ w.ticket_is;
+      number_is = λ k kt. get_or-set_other ws (grant_at r) (unit_number_at l k) 0 0 (λ e. omega arith) ∙ w.number_is k kt;
       count_is = λ b y e o. let at = (st.inside b y e).0 in get_or-set_other ws (grant_at r) b 0 0 (λ q. omega arith) ∙ w.count_is b y e o;
       cell_is = λ b y e o. let at = (st.inside b y e).0 in spells_else ws (grant_at r) 0 b y.number (glue y.number) y.lits (λ i some it q. omega arith) (w.cell_is b y e o);
     }
@@ -233,6 +246,7 @@ module _ (l : Layout) (c : State) (st : Stands l c) (a : ℕ) (x : Cell) (is : c
         unit_is = λ k lt. get_or-set_other ws w (unit_at l k) n 0 (λ e. omega arith) ∙ ww.unit_is k lt;
         slot_is = λ k lt. get_or-set_other ws w (slot_at l k) n 0 (λ e. omega arith) ∙ ww.slot_is k lt;
         ticket_is = get_or-set_other ws w (ticket_at l) n 0 (λ e. omega arith) ∙ ww.ticket_is;
+        number_is = λ k kt. get_or-set_other ws w (unit_number_at l k) n 0 (λ e. omega arith) ∙ ww.number_is k kt;
         count_is = λ b y e o. get_or-set_other ws w b n 0 (elsewhere b y e (open_else b y e o) b (omega arith) (omega arith)) ∙ ww.count_is b y e o;
         cell_is = λ b y e o. spells_else ws w n b y.number (glue y.number) y.lits (λ i some lt q. elsewhere b y e (open_else b y e o) (b + i) (omega arith) (omega arith) (sym q)) (ww.cell_is b y e o);
       }

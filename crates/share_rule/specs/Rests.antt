@@ -8,7 +8,7 @@ use Rattle.sat_words.specs.Clause.{clause_of}
 use Rattle.clause_cell.specs.declared.holes.Hole.{Hole}
 use Rattle.clause_cell.specs.Packing.{words_for, lit_word}
 use Rattle.share_core.specs.declared.stored.Cell.{Cell}
-use Rattle.share_core.specs.State.{State}
+use Rattle.share_core.specs.State.{State, unit_lits, unit_numbers}
 use Rattle.share_core.specs.Sound.{Sound}
 use Rattle.share_rule.specs.declared.Layout.{Layout}
 use Rattle.share_rule.specs.declared.rests.Rest.{Rest}
@@ -40,9 +40,14 @@ pub record AreRests (c : State) (glue : ℕ → ℕ) (rs : List Rest) : Type 0 w
   pub only : All (IsRest c glue) rs
   pub ascending : IsStrictlySortedBy nat_cmp (map (λ r. r.number) rs)
 
+-- the listed units are told with their numbers, in the order in which they were listed
+pub record AreListed (c : State) (us : List (Literal × ℕ)) : Type 0 where
+  pub units : unit_lits us ≡ c.units
+  pub numbers : unit_numbers us ≡ c.numbers
+
 -- unless a write has failed, the clauses of the cells and the listed units are told; if one has, nothing is
-abbrev pub TellsRests : State → (ℕ → ℕ) → Bool → List Rest → List Literal → Type 0
-TellsRests c glue false rs us = AreRests c glue rs × (us ≡ c.units)
+abbrev pub TellsRests : State → (ℕ → ℕ) → Bool → List Rest → List (Literal × ℕ) → Type 0
+TellsRests c glue false rs us = AreRests c glue rs × AreListed c us
 TellsRests c glue true rs us = (rs ≡ []) × (us ≡ [])
 
 -- the words of a table are those of a sound state in which all cells are open

@@ -9,6 +9,7 @@ use Rattle.rup_model.specs.Basics.{one_if}
 use Rattle.share_core.specs.declared.event.Stop.{Stop}
 use Rattle.share_core.specs.declared.stored.Cell.{Cell}
 use Rattle.share_core.specs.State.{State, blank}
+use Rattle.share_core.specs.Events.{listed_number}
 use Rattle.share_core.specs.declared.part.CoreOpening.{CoreOpening}
 use Rattle.share_rule.specs.declared.view.BookOrigin.{BookOrigin}
 use Rattle.share_rule.specs.declared.Layout.{Layout}
@@ -18,7 +19,7 @@ use Rattle.share_rule.specs.declared.view.StoredWord.{StoredWord}
 use Rattle.share_rule.specs.declared.view.RingPart.{RingPart}
 use Rattle.share_rule.specs.declared.view.Taken.{Taken}
 use Rattle.share_rule.specs.declared.view.View.{View}
-use Rattle.share_rule.specs.Layout.{grant_at, unit_at, slots, slot_at, ticket_at, table_words}
+use Rattle.share_rule.specs.Layout.{grant_at, unit_at, number_at, slots, slot_at, ticket_at, table_words}
 use Rattle.share_rule.specs.Cells.{Spells}
 use Rattle.share_rule.specs.Views.{times_in, stored_at, is_ready, in_draft}
 use Rattle.share_rule.specs.Seen.{IsPart, IsStopOf}
@@ -45,6 +46,7 @@ pub record Words (l : Layout) (c : State) (glue : ℕ → ℕ) (ws : List ℕ) :
   pub listed_is : slice_index ws 2 ≡ length c.units
   pub grant_is : (r : ℕ) → r < l.rings → slice_index ws (grant_at r) ≡ one_if (not (c.granted r))
   pub unit_is : (k : ℕ) → k < length c.units → slice_index ws (unit_at l k) ≡ slice_index_or (map code_of c.units) k 0
+  pub number_is : (k : ℕ) → k < length c.units → slice_index ws (number_at l k) ≡ listed_number c.numbers k
   pub slot_is : (k : ℕ) → k < slots l → slice_index ws (slot_at l k) ≡ c.slot k
   pub count_is : (a : ℕ) (x : Cell) → c.cell a ≡ Some x → x.maker ≡ None → slice_index ws a ≡ x.count
   pub cell_is : (a : ℕ) (x : Cell) → c.cell a ≡ Some x → x.maker ≡ None → Spells ws a x.number (glue x.number) x.lits
@@ -74,9 +76,13 @@ pub record IsStored (c : State) (ws : List ℕ) (r : ℕ) (ss : List StoredWord)
   pub words : (w n : ℕ) → stored_at w ss ≡ Some n → slice_index ws w ≡ n
   pub inside : (w n : ℕ) → stored_at w ss ≡ Some n → Builds c r w
 
--- the ring, which has the turn, has stored this word for the next listed unit
+-- if the ring has stored a word for the next listed unit at this place, it has the turn, there is room, and the word stands
+abbrev pub StandsNext : Layout → State → List ℕ → ℕ → ℕ → Option ℕ → Type 0
+StandsNext l c ws r w stored = (n : ℕ) → stored ≡ Some n → (c.turn ≡ Some r) × (length c.units < 2 * l.vars) × (slice_index ws w ≡ n)
+
+-- what the ring has stored of the next listed unit: the unit and its number
 abbrev pub UnitOut : Layout → State → List ℕ → RingPart → Type 0
-UnitOut l c ws p = (n : ℕ) → p.unit ≡ Some n → (c.turn ≡ Some (ring_of p)) × (length c.units < 2 * l.vars) × (slice_index ws (unit_at l (length c.units)) ≡ n)
+UnitOut l c ws p = StandsNext l c ws (ring_of p) (unit_at l (length c.units)) p.unit × StandsNext l c ws (ring_of p) (number_at l (length c.units)) p.number
 
 -- both
 abbrev pub IsOut : Layout → State → List ℕ → RingPart → Type 0

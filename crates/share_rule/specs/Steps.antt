@@ -33,7 +33,7 @@ changed f v = record v { parts = on_first f v.parts }
 
 -- a ring that has its grant
 abbrev pub new_part : CoreOpening → ℕ → RingPart
-new_part o r = record { core = granted_part o (blank r); glues = start_glues o.starts; stored = []; turn = None; listed = 0; whole = false; unit = None; refused = None; failed = false; set = None; ended = false; gave = []; polls = []; caught_up = 0 }
+new_part o r = record { core = granted_part o (blank r); glues = start_glues o.starts; stored = []; turn = None; listed = 0; whole = false; unit = None; number = None; refused = None; failed = false; set = None; ended = false; gave = []; polls = []; caught_up = 0 }
 
 -- Parts
 

@@ -34,9 +34,9 @@ use Rattle.share_rule.specs.Room.{room}
 
 -- the event that a note is
 abbrev pub event_of : ℕ → Note → Event
-event_of r (Clause kind lits glue a) = event.AddClause r kind lits a
-event_of r (UnitNote kind lit) = event.AddUnit r kind lit
-event_of r Empty = event.AddEmpty r
+event_of r (Clause kind lits hints glue a) = event.AddClause r kind lits hints a
+event_of r (UnitNote kind lit hints) = event.AddUnit r kind lit hints
+event_of r (Empty hints) = event.AddEmpty r hints
 event_of r Reduce = event.Reduce r
 event_of r (Bury a) = event.Bury r a
 
@@ -46,25 +46,25 @@ next_number o J = (book o.formula J).next
 
 -- the entry
 abbrev pub entry_of : CoreOpening → ℕ → List Entry → Part → Note → Entry
-entry_of o r J p (Clause kind lits glue a) = Add (record { ring = r; number = next_number o J; lits = lits; kind = kind; hints = [] })
-entry_of o r J p (UnitNote kind lit) = Add (record { ring = r; number = next_number o J; lits = lit ∷ []; kind = kind; hints = [] })
-entry_of o r J p Empty = Add (record { ring = r; number = next_number o J; lits = []; kind = Derive; hints = [] })
+entry_of o r J p (Clause kind lits hints glue a) = Add (record { ring = r; number = next_number o J; lits = lits; kind = kind; hints = hints })
+entry_of o r J p (UnitNote kind lit hints) = Add (record { ring = r; number = next_number o J; lits = lit ∷ []; kind = kind; hints = hints })
+entry_of o r J p (Empty hints) = Add (record { ring = r; number = next_number o J; lits = []; kind = Derive; hints = hints })
 entry_of o r J p Reduce = ReduceEntry r
 entry_of o r J p (Bury a) = Del r (clause_in a p.waiting).number
 
 -- the ring's part of the core after it
 abbrev pub noted_core : CoreOpening → ℕ → List Entry → Note → Part → Part
-noted_core o r J (Clause kind lits glue a) p = made_part (record { address = a; number = next_number o J; lits = lits }) (length J) (entry_of o r J p (Clause kind lits glue a)) (after_learn kind p)
-noted_core o r J (UnitNote kind lit) p = wrote_part (length J) (entry_of o r J p (UnitNote kind lit)) (after_learn kind p)
-noted_core o r J Empty p = wrote_part (length J) (entry_of o r J p Empty) (after_learn Derive p)
+noted_core o r J (Clause kind lits hints glue a) p = made_part (record { address = a; number = next_number o J; lits = lits }) (length J) (entry_of o r J p (Clause kind lits hints glue a)) (after_learn kind p)
+noted_core o r J (UnitNote kind lit hints) p = wrote_part (length J) (entry_of o r J p (UnitNote kind lit hints)) (after_learn kind p)
+noted_core o r J (Empty hints) p = wrote_part (length J) (entry_of o r J p (Empty hints)) (after_learn Derive p)
 noted_core o r J Reduce p = wrote_part (length J) (entry_of o r J p Reduce) p
 noted_core o r J (Bury a) p = buried_part a (length J) (entry_of o r J p (Bury a)) p
 
 -- a clause brings its glue
 abbrev pub noted_glues : ℕ → Note → List GlueAt → List GlueAt
-noted_glues n (Clause kind lits glue a) gs = record { number = n; glue = glue } ∷ gs
-noted_glues n (UnitNote kind lit) gs = gs
-noted_glues n Empty gs = gs
+noted_glues n (Clause kind lits hints glue a) gs = record { number = n; glue = glue } ∷ gs
+noted_glues n (UnitNote kind lit hints) gs = gs
+noted_glues n (Empty hints) gs = gs
 noted_glues n Reduce gs = gs
 noted_glues n (Bury a) gs = gs
 
@@ -97,10 +97,10 @@ pub record IsGoing (o : CoreOpening) (J : List Entry) : Type 0 where
 abbrev pub MayNote : Layout → CoreOpening → ℕ → List Entry → Part → Note → Type 0
 -- two literals or more on the layout's variables, which follow from what the ring knows, at the first place that is long
 -- enough
-MayNote l o r J p (Clause kind lits glue a) =
-    MayAddClause o J p r kind lits × IsLong lits × (follows p lits ≡ true) × InVars l lits × (first_fit (words_for (length lits)) (room l o J).holes ≡ Some a)
-MayNote l o r J p (UnitNote kind lit) = MayAddUnit o J p r kind (lit ∷ []) × (follows p (lit ∷ []) ≡ true) × InVars l (lit ∷ [])
-MayNote l o r J p Empty = follows p [] ≡ true
+MayNote l o r J p (Clause kind lits hints glue a) =
+    MayAddClause o J p r kind lits × IsLong lits × (follows o.hinted p lits hints ≡ true) × InVars l lits × (first_fit (words_for (length lits)) (room l o J).holes ≡ Some a)
+MayNote l o r J p (UnitNote kind lit hints) = MayAddUnit o J p r kind (lit ∷ []) × (follows o.hinted p (lit ∷ []) hints ≡ true) × InVars l (lit ∷ [])
+MayNote l o r J p (Empty hints) = follows o.hinted p [] hints ≡ true
 MayNote l o r J p Reduce = LEARNED_PER_REDUCTION ≤ length (recent r (later o J))
 -- the cell waits at the ring
 MayNote l o r J p (Bury a) = 0 < times_at a p.waiting
@@ -160,6 +160,7 @@ give_part o s x failed p = record p {
   turn = None;
   whole = false;
   unit = None;
+  number = None;
   refused = newer x p.refused;
   failed = failed;
   ended = p.ended || ended o.formula s.journal;

@@ -77,7 +77,7 @@ in_draft Spent = false
 
 -- of a table that is not open
 abbrev pub no_opening : CoreOpening
-no_opening = record { formula = []; rings = 0; depth = 0; journal = []; starts = []; units = []; limit = 0 }
+no_opening = record { formula = []; rings = 0; depth = 0; journal = []; starts = []; units = []; numbers = []; limit = 0; hinted = false }
 
 -- of none
 abbrev pub no_origin : BookOrigin
@@ -105,7 +105,7 @@ spent_view = record (closed_view (record { rings = 0; vars = 0; words = 0; depth
 
 -- no ring's
 abbrev pub no_part : RingPart
-no_part = record { core = blank 0; glues = []; stored = []; turn = None; listed = 0; whole = false; unit = None; refused = None; failed = false; set = None; ended = false; gave = []; polls = []; caught_up = 0 }
+no_part = record { core = blank 0; glues = []; stored = []; turn = None; listed = 0; whole = false; unit = None; number = None; refused = None; failed = false; set = None; ended = false; gave = []; polls = []; caught_up = 0 }
 
 -- the part of the pass's one ring
 abbrev pub only : View → RingPart

@@ -35,8 +35,8 @@ pub struct ClosedTable<B> {
     pub book: B,
     /// The clauses of its cells, in order of number.
     pub rests: Vec<Rest>,
-    /// The listed units, in the order in which they were listed.
-    pub units: Vec<Lit>,
+    /// The listed units with their numbers, in the order in which they were listed.
+    pub units: Vec<(Lit, u64)>,
 }
 
 /// The same, and what the table held is told: the clause of each cell, whether rings hold it, it waits or lies in a slot, and

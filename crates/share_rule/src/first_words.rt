@@ -1,14 +1,15 @@
 //! The words that a table begins with: below the cells what the opening says, then the cells of the start
-//! clauses, at the end the number of tickets drawn.
+//! clauses, at the end the number of tickets drawn and the numbers of the units.
 ghost use Rattle.std.specs.Prelude.{◌≡◌, ◌≤◌, ◌<◌, ◌^◌, ◌*◌, ◌/◌, ◌+◌, ◌-◌, ◌++◌, ◌∷◌, [], map, length, replicate, IfOk, IfErr, OnOk, ℕ, Some, All};
 ghost use Rattle.sat_words.specs.Literal.{Literal, code_of};
 ghost use Rattle.sat_words.specs.declared.shared.Cref.{Cref};
 ghost use Rattle.clause_cell.specs.declared.holes.HoleStop.TheVariants.{NoHole, Memory};
 ghost use Rattle.clause_cell.specs.Free.{first_fit, without_fit, largest};
 ghost use Rattle.clause_cell.specs.Packing.{words_for};
-ghost use Rattle.share_rule.specs.Layout.{first_cell, InVars};
+ghost use Rattle.share_core.specs.State.{unit_numbers};
+ghost use Rattle.share_rule.specs.Layout.{first_cell, ticket_at, InVars};
 ghost use Rattle.share_rule.specs.Room.{start_room};
-ghost use Rattle.share_rule.specs.FirstWords.{total, starts_at, addresses, lit_words, cell_words, start_words, low_words, first_words, IsMakeStop};
+ghost use Rattle.share_rule.specs.FirstWords.{total, starts_at, addresses, lit_words, cell_words, start_words, low_words, last_words, first_words, IsMakeStop};
 
 use crate::Layout;
 use clause_cell::{HoleStop, Holes, head_word, lit_word, words_for};
@@ -23,23 +24,44 @@ fn fill(words: &mut Vec<u64>, end: usize, value: u64) -> Result<(), AllocError>
     words.resize(end, value)
 }
 
-fn push_units(words: &mut Vec<u64>, units: &[Lit]) -> Result<(), AllocError>
-    ensures { OnOk result (words.new.items ≡ words.old.items ++ map code_of units.now) }
+fn push_units(words: &mut Vec<u64>, units: &[(Lit, u64)]) -> Result<(), AllocError>
+    ensures { OnOk result (words.new.items ≡ words.old.items ++ map (λ u. code_of u.0) units.now) }
 {
     for unit in units {
-        words.push(unit.code() as u64)?;
+        words.push(unit.0.code() as u64)?;
     }
     Ok(())
 }
 
+fn push_numbers(words: &mut Vec<u64>, units: &[(Lit, u64)]) -> Result<(), AllocError>
+    ensures { OnOk result (words.new.items ≡ words.old.items ++ unit_numbers units.now) }
+{
+    for unit in units {
+        words.push(unit.1)?;
+    }
+    Ok(())
+}
+
+/// The words behind the cells: no ticket drawn, the numbers of the listed units.
+fn push_last(words: &mut Vec<u64>, layout: Layout, units: &[(Lit, u64)]) -> Result<(), AllocError>
+    requires layout { (layout.rings ≤ 16) × (layout.vars ≤ 2 ^ 30) × (layout.words ≤ 2 ^ 31) × (layout.depth ≤ 16) }
+    requires units { length units.now ≤ 2 * layout.vars }
+    requires words { length words.old.items ≡ ticket_at layout }
+    ensures { OnOk result (words.new.items ≡ words.old.items ++ last_words layout units.now) }
+{
+    words.push(0)?;
+    push_numbers(words, units)?;
+    fill(words, layout.table_words(), 0)
+}
+
 /// The words below the cells: no turn, no stop, the listed units, open grants, empty slots. There is room for all words.
-fn low_words(alloc: Global, layout: Layout, units: &[Lit]) -> Result<Vec<u64>, AllocError>
+fn low_words(alloc: Global, layout: Layout, units: &[(Lit, u64)]) -> Result<Vec<u64>, AllocError>
     requires layout { (layout.rings ≤ 16) × (layout.vars ≤ 2 ^ 30) × (layout.words ≤ 2 ^ 31) × (layout.depth ≤ 16) }
     requires units { length units.now ≤ 2 * layout.vars }
     ensures { IfOk result (λ v. v.items ≡ low_words layout units.now) }
 {
     let first = layout.first_cell();
-    let mut words = Vec::with_capacity(alloc, layout.ticket() + 1)?;
+    let mut words = Vec::with_capacity(alloc, layout.table_words())?;
     words.push(0)?;
     words.push(0)?;
     words.push(units.len() as u64)?;
@@ -128,7 +150,7 @@ pub(crate) fn lay_out(
     alloc: Global,
     layout: Layout,
     start: &[(u64, Clause)],
-    units: &[Lit],
+    units: &[(Lit, u64)],
 ) -> Result<(Vec<u64>, Holes, Vec<Cref>), HoleStop>
     requires layout { (layout.rings ≤ 16) × (layout.vars ≤ 2 ^ 30) × (layout.words ≤ 2 ^ 31) × (layout.depth ≤ 16) }
     requires short { All (λ s. length s.1 < 2 ^ 32) start.now }
@@ -144,7 +166,10 @@ pub(crate) fn lay_out(
         Err(_) => return Err(HoleStop::Memory),
     };
     let (holes, cells) = place_starts(alloc, layout, &mut words, start)?;
-    match fill(&mut words, layout.ticket() + 1, 0) {
+    if fill(&mut words, layout.ticket(), 0).is_err() {
+        return Err(HoleStop::Memory);
+    }
+    match push_last(&mut words, layout, units) {
         Ok(()) => Ok((words, holes, cells)),
         Err(_) => Err(HoleStop::Memory),
     }

@@ -62,10 +62,12 @@ pub use ticket_plays::Draws;
 pub use turn_laws::{a_turn_is_its_events, a_turn_missed_is_no_event, a_turn_taken_is_its_event};
 pub use turn_plays::{Gives, Notes, Takes};
 pub use unit_laws::{
-    a_unit_count_is_no_event, a_unit_listed_is_its_event, a_unit_seen_is_its_event,
-    a_unit_stored_is_no_event,
+    a_number_loaded_is_no_event, a_number_stored_is_no_event, a_unit_count_is_no_event,
+    a_unit_listed_is_its_event, a_unit_seen_is_its_event, a_unit_stored_is_no_event,
 };
-pub use unit_plays::{CountsUnits, ListsUnit, SeesUnit, StoresUnit, Unit};
+pub use unit_plays::{
+    CountsUnits, ListsUnit, LoadsNumber, SeesUnit, StoresNumber, StoresUnit, Unit,
+};
 pub use view::{
     BookOrigin, GlueAt, LastStep, Op, Poll, Refusal, RingPart, Stage, StoredWord, Taken, View,
 };

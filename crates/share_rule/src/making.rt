@@ -1,5 +1,6 @@
 //! How a table begins.
 ghost use Rattle.std.specs.Prelude.{◌≡◌, [], false, List, IfOk, IfErr};
+ghost use Rattle.sat_words.specs.Formats.{has_hints};
 ghost use Rattle.rup_model.specs.declared.journal.Entry.{Entry};
 ghost use Rattle.share_rule.specs.Layout.{first_cell};
 ghost use Rattle.share_rule.specs.Books.{HasLog, StandsFor};
@@ -35,7 +36,7 @@ fn open_table<O: OpenedWith, B: Ledger>(
     entries: u64,
     _formula: &Formula,
     _start: &[(u64, Clause)],
-    _units: &[Lit],
+    _units: &[(Lit, u64)],
 )
     requires pass { (pass.old.table_id ≡ table.now.table.shared.table_id) × (pass.old.me ≡ (closed_view table.now.layout, [])) }
     requires opens { Opens (StandsFor B.account B.stands) table.now.table.shared.key O.opening O.origin book entries }
@@ -52,21 +53,22 @@ fn open_table<O: OpenedWith, B: Ledger>(
 }
 
 /// A table for this formula, with its first pass and the addresses of the start clauses. The start clauses, each with its
-/// number in the log, come in order of number and are placed in it. The book has the log that the rings
-/// go on with, `journal`; it gets its holes here. What it is now stays known as its origin.
+/// number in the log, come in order of number and are placed in it. Each unit comes with the number of a clause that is this
+/// unit. The book has the log that the rings go on with, `journal`; it gets its holes here. What it is now stays known as its
+/// origin, and the rings give hints if its lines have them.
 pub fn make<B: Ledger>(
     alloc: Global,
     _formula: &Formula,
     layout: Layout,
     start: &[(u64, Clause)],
-    units: &[Lit],
+    units: &[(Lit, u64)],
     book: B,
 ) -> Result<(Shared<B>, Pass<B>, Vec<Cref>), MakeStop<B>>
     ghost journal: { List Entry }
     requires begins { MayBegin _formula.now.clauses layout journal start.now units.now }
     requires book { HasLog B.account B.stands book (B.origin book) layout _formula.now.clauses journal }
     requires whole { (B.account book).broken ≡ false }
-    ensures made { IfOk result (λ m. (m.0.layout ≡ layout) × IsPassOf m.0 m.1 × (m.1.me ≡ (first_view layout (begun_with _formula.now.clauses layout journal start.now units.now) (B.origin book), []))) }
+    ensures made { IfOk result (λ m. (m.0.layout ≡ layout) × IsPassOf m.0 m.1 × (m.1.me ≡ (first_view layout (begun_with _formula.now.clauses layout (has_hints (B.origin book).format) journal start.now units.now) (B.origin book), []))) }
     ensures cells { IfOk result (λ m. m.2.items ≡ addresses (starts_at (first_cell layout) start.now)) }
     ensures stopped { IfErr result (λ e. IsMakeStop layout start.now e.why) }
     ensures back { IfErr result (λ e. e.book ≡ book) }

@@ -1,5 +1,5 @@
 //! What a ring writes while it has the turn.
-use rup_model::Kind;
+use rup_model::{ClauseNumbers, Kind};
 use sat_words::{Lit, Lits};
 
 /// One entry that a ring writes. Its number, if it has one, is the next of the log.
@@ -11,6 +11,8 @@ pub enum Note {
         kind: Kind,
         /// Its literals, in the cell's order.
         lits: Lits,
+        /// In a log with hints, the numbers of clauses that show one after another that it follows; in other logs none.
+        hints: ClauseNumbers,
         /// Its glue.
         glue: u32,
         /// The first word of its cell.
@@ -22,9 +24,14 @@ pub enum Note {
         kind: Kind,
         /// Its literal.
         lit: Lit,
+        /// Hints as for a clause.
+        hints: ClauseNumbers,
     },
     /// The empty clause, with which the log ends.
-    Empty,
+    Empty {
+        /// Hints as for a clause.
+        hints: ClauseNumbers,
+    },
     /// The ring reduces its clauses.
     Reduce,
     /// The clause of a cell that waits is deleted, and its words are free again.

@@ -1,6 +1,6 @@
 //! Where things lie in the words of a table.
 ghost use Rattle.std.specs.Prelude.{◌≡◌, ◌<◌, ◌≤◌, ◌+◌, ◌*◌, ◌^◌};
-ghost use Rattle.share_rule.specs.Layout.{grant_at, unit_at, slot_at, first_cell, ticket_at};
+ghost use Rattle.share_rule.specs.Layout.{grant_at, unit_at, number_at, slot_at, first_cell, ticket_at, table_words};
 
 use crate::Layout;
 
@@ -53,11 +53,28 @@ impl Layout {
         3 + rings + 2 * self.vars as u64 + slots
     }
 
-    /// The word that counts the tickets drawn, the last of the table.
+    /// The word that counts the tickets drawn.
     pub fn ticket(self) -> usize
         requires { (self.rings ≤ 16) × (self.vars ≤ 2 ^ 30) × (self.words ≤ 2 ^ 31) × (self.depth ≤ 16) }
         ensures { result ≡ ticket_at self }
     {
         (self.first_cell() + self.words) as usize
+    }
+
+    /// The word with the number of the listed unit at a place, from 0.
+    pub fn number(self, place: u64) -> usize
+        requires layout { (self.rings ≤ 16) × (self.vars ≤ 2 ^ 30) × (self.words ≤ 2 ^ 31) × (self.depth ≤ 16) }
+        requires place { place ≤ 2 ^ 31 }
+        ensures { result ≡ number_at self place }
+    {
+        self.ticket() + 1 + place as usize
+    }
+
+    /// How many words the table has.
+    pub(crate) fn table_words(self) -> usize
+        requires { (self.rings ≤ 16) × (self.vars ≤ 2 ^ 30) × (self.words ≤ 2 ^ 31) × (self.depth ≤ 16) }
+        ensures { result ≡ table_words self }
+    {
+        self.ticket() + 1 + 2 * self.vars as usize
     }
 }

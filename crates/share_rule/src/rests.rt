@@ -5,7 +5,7 @@ ghost use Rattle.sat_words.specs.Literal.{Literal, literal_of};
 ghost use Rattle.share_core.specs.declared.stored.Cell.{Cell};
 ghost use Rattle.share_core.specs.State.{State};
 ghost use Rattle.share_rule.specs.Layout.{cells_end};
-ghost use Rattle.share_rule.specs.Rests.{rest_of, IsAtEnd, HasHoles, HasLits, AreRestsBefore, AreRests, TellsRests};
+ghost use Rattle.share_rule.specs.Rests.{rest_of, IsAtEnd, HasHoles, HasLits, AreRestsBefore, AreRests, AreListed, TellsRests};
 
 use crate::{Layout, Ledger};
 use atomic_table::Closed;
@@ -128,21 +128,22 @@ fn read_rests<B: Ledger>(
     Ok(rests)
 }
 
-/// The listed units, in the order in which they were listed.
+/// The listed units with their numbers, in the order in which they were listed.
 fn read_units<S>(
     alloc: Global,
     table: &Closed<S, Global>,
     layout: Layout,
-) -> Result<Vec<Lit>, AllocError>
-    requires layout { (layout.rings ≤ 16) × (layout.vars ≤ 2 ^ 30) }
+) -> Result<Vec<(Lit, u64)>, AllocError>
+    requires layout { (layout.rings ≤ 16) × (layout.vars ≤ 2 ^ 30) × (layout.words ≤ 2 ^ 31) × (layout.depth ≤ 16) }
     requires full { IsFull table.now.words }
     requires end { (c : State) × (glue : ℕ → ℕ) × IsAtEnd layout c glue (slots_items table.now.words) }
-    ensures { IfOk result (λ us. (c : State) (glue : ℕ → ℕ) → IsAtEnd layout c glue (slots_items table.now.words) → us.items ≡ c.units) }
+    ensures { IfOk result (λ us. (c : State) (glue : ℕ → ℕ) → IsAtEnd layout c glue (slots_items table.now.words) → AreListed c us.items) }
 {
     let mut units = Vec::new(alloc);
     for place in 0..word(table, 2) {
         let code = word(table, layout.unit(place) as u64);
-        units.push(lit_of(code as u32))?;
+        let number = word(table, layout.number(place) as u64);
+        units.push((lit_of(code as u32), number))?;
     }
     Ok(units)
 }
@@ -154,7 +155,7 @@ pub(crate) fn read<B: Ledger>(
     table: &Closed<Option<B>, Global>,
     layout: Layout,
     book: &B,
-) -> Result<(Vec<Rest>, Vec<Lit>), AllocError>
+) -> Result<(Vec<Rest>, Vec<(Lit, u64)>), AllocError>
     requires layout { (layout.rings ≤ 16) × (layout.vars ≤ 2 ^ 30) × (layout.words ≤ 2 ^ 31) × (layout.depth ≤ 16) }
     requires full { IsFull table.now.words }
     requires end { (c : State) × (glue : ℕ → ℕ) × IsAtEnd layout c glue (slots_items table.now.words) × ((B.account book.now).broken ≡ false → HasHoles layout c (B.account book.now).holes) }

@@ -32,8 +32,8 @@ pub fn longer_journals_stay_tight()
 
 /// If a turn finds no hole for a clause that it may add after what it wrote, room is wanted there.
 pub fn a_turn_without_a_hole_is_tight()
-    ensures { (v : View) (ns : List Note) (kind : Kind) (lits : List Literal) (need most : ℕ) → Seen v → IsWriting v → MayWrite v ns
-        → MayAddClause v.opening (written_of v ns).journal (written_of v ns).part (ring_of (only v)) kind lits → IsLong lits → follows (written_of v ns).part lits ≡ true → InVars v.layout lits
+    ensures { (v : View) (ns : List Note) (kind : Kind) (lits : List Literal) (hints : List ℕ) (need most : ℕ) → Seen v → IsWriting v → MayWrite v ns
+        → MayAddClause v.opening (written_of v ns).journal (written_of v ns).part (ring_of (only v)) kind lits → IsLong lits → follows v.opening.hinted (written_of v ns).part lits hints ≡ true → InVars v.layout lits
         → need ≡ words_for (length lits) → most ≡ largest (room v.layout v.opening (written_of v ns).journal).holes → most < need
         → IsTight v.layout v.opening (written_of v ns).journal need most }
 {}

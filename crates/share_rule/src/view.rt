@@ -99,6 +99,8 @@ pub struct RingPart {
     pub whole: bool,
     /// The word that it stored for the next listed unit, not counted yet.
     pub unit: Option<u64>,
+    /// The word that it stored for that unit's number, not counted yet.
+    pub number: Option<u64>,
     /// What its turns were refused last.
     pub refused: Option<Refusal>,
     /// It was told that a write of the book has failed.

@@ -67,7 +67,7 @@ begun_work F out last on = record {
   units_on = λ k d lt. absurd (omega arith);
   stack_on = λ k d lt. absurd (omega arith);
   distinct = refl;
-  units_held = λ _ k d lt. absurd (omega arith);
+  units_held = λ k d lt. absurd (omega arith);
 }
 
 pub begun_stands : (F : FormulaData) (out : LineState) → out.spent ≡ false → out.entries ≡ 0 → out.last ≡ length F.clauses → Stands (record { formula = F.clauses; journal = []; output = out }) [] (begun F out)
@@ -83,6 +83,10 @@ begun_stands F out unspent blank last = record {
       ap (λ (m : ℕ). option_map clause_of (formula_clause F.clauses m)) e ∙ ap (option_map clause_of) t.2
       ∙ ap (λ (d : List Literal). Some d) (clause_of_in_order c (held_ordered (slice_get F.clauses t.0) c t.2)));
   all = λ n c is. inl (subst (λ (d : List Literal). Contains (numbered 1 F.clauses) (n, d)) (sym (clause_of_in_order c (in_order n c is))) (all n c is));
+  alone = λ n l h. (
+      let t = held_from 1 F.clauses n (l ∷ []) (Contains_In (numbered 1 F.clauses) (n, l ∷ []) h) in
+      let e : n ≡ suc t.0 = (let z = t.1 in omega arith) in
+      ap (formula_clause F.clauses) e ∙ t.2);
   told = λ k d lt. absurd (omega arith);
   every = every;
   lines = record {

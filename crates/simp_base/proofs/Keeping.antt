@@ -13,7 +13,6 @@ use Rattle.sat_words.proofs.Members.{same-true, same-refl}
 use Rattle.std.specs.Prelude.{Result, Ok, Err}
 use Rattle.drat_text.specs.declared.stop.LineStop.{LineStop}
 use Rattle.drat_text.specs.declared.stop.LineStop.TheVariants.{ProofFault, Full, Memory}
-use Rattle.sat_words.specs.Formats.{has_hints}
 use Rattle.rup_model.specs.NumberedLines.{NumberedLine}
 use Rattle.sat_words.proofs.Insertion.{same_set-clause_of}
 use Rattle.rup_model.proofs.Lists.{In_has, has_In, In_any, any_In, In_map, map_In, In_Contains, Contains_In}
@@ -65,7 +64,6 @@ pub work_added : (w : WorkState) → IsWork w → (lits : List Literal) → All 
 work_added w kept lits on number b put cs is en =
     let last : b.last ≡ w.output.last + 1 = ap (λ (s : LineState). s.last) put.put.state in
     let given = put.given in
-    let format : b.format ≡ w.output.format = ap (λ (s : LineState). s.format) put.put.state in
     subst (λ ds. IsWork (record w { clauses = ds; ended = en; output = b })) (sym is) (record {
       unheld = kept.unheld;
       numbers = numbers_more w.clauses w.output.last number (clause_of lits) kept.numbers kept.given (omega arith);
@@ -74,7 +72,7 @@ work_added w kept lits on number b put cs is en =
       units_on = kept.units_on;
       stack_on = kept.stack_on;
       distinct = kept.distinct;
-      units_held = λ h. units_more w number (clause_of lits) (kept.units_held (ap has_hints (sym format) ∙ h));
+      units_held = units_more w number (clause_of lits) kept.units_held;
     })
 
 All_lists : (P : List Literal → Type 0) (cs : List (ℕ × List Literal)) → All P (lists cs) → All (λ x. P x.1) cs
@@ -92,7 +90,18 @@ only_told l [] h = absurd (false≢true h)
 only_told l (k ∷ []) h = ap (λ m. m ∷ []) (same-true k l h)
 only_told l (k ∷ j ∷ c) h = absurd (false≢true h)
 
--- units whose clauses are held still are if one of two literals or more goes
+-- the clause of a unit still is held if one of two literals or more goes
+pub unit_stays : (cells : List (ℕ × List Literal)) → HaveOwnNumbers cells → (number : ℕ) (c : List Literal) → Contains cells (number, c) → two_or_more c ≡ true → (cs : List (ℕ × List Literal)) → RemovedNumber cells cs number
+    → (n : ℕ) (l : Literal) → Contains cells (n, l ∷ []) → Contains cs (n, l ∷ [])
+unit_stays cells own number c alive two cs was n l there =
+    let apart : n ≢ number = λ q. (
+    let same_c = one_clause cells own number was.place was.removed.within was.here c alive in
+    let same_u = one_clause cells own number was.place was.removed.within was.here (l ∷ []) (subst (λ (m : ℕ). Contains cells (m, l ∷ [])) q there) in
+    let both = get_or_default cells was.place (number, l ∷ []) (number, c) was.removed.within in
+    false≢true (ap two_or_more (ap (λ (x : ℕ × List Literal). x.1) (sym same_u ∙ both ∙ same_c)) ∙ two)) in
+    (others_less cells cs was.place was.removed own number was.here n (l ∷ [])).1 (there, apart)
+
+-- units whose clauses are held still are then
 units_less : (w : WorkState) → IsWork w → (number : ℕ) (c : List Literal) → Contains w.clauses (number, c) → two_or_more c ≡ true → (cs : List (ℕ × List Literal)) → RemovedNumber w.clauses cs number
     → All (λ l. is_alive_unit w l ≡ true) w.units → All (λ l. is_alive_unit (record w { clauses = cs }) l ≡ true) w.units
 units_less w kept number c alive two cs was held k d lt =
@@ -100,15 +109,9 @@ units_less w kept number c alive two cs was held k d lt =
     let t = In_any (is_only l) (lists w.clauses) (held k d lt) in
     let u = map_In (λ (x : ℕ × List Literal). x.1) w.clauses t.0 t.1 in
     let one : u.0.1 ≡ l ∷ [] = u.2 ∙ only_told l t.0 t.2 in
-    let there : Contains w.clauses u.0 = In_Contains w.clauses u.0 u.1 in
-    let apart : u.0.0 ≢ number = λ q. (
-    let same_c = one_clause w.clauses kept.numbers number was.place was.removed.within was.here c alive in
-    let same_u = one_clause w.clauses kept.numbers number was.place was.removed.within was.here u.0.1 (subst (λ (n : ℕ). Contains w.clauses (n, u.0.1)) q there) in
-    let both = get_or_default w.clauses was.place (number, u.0.1) (number, c) was.removed.within in
-    false≢true (ap two_or_more (sym one ∙ ap (λ (x : ℕ × List Literal). x.1) (sym same_u ∙ both ∙ same_c)) ∙ two)) in
-    let left = (others_less w.clauses cs was.place was.removed kept.numbers number was.here u.0.0 u.0.1).1 (there, apart) in
-    any_In (is_only l) (lists cs) u.0.1 (In_map (λ (x : ℕ × List Literal). x.1) cs (u.0.0, u.0.1) (Contains_In cs (u.0.0, u.0.1) left))
-    (subst (λ (x : List Literal). is_only l x ≡ true) (sym one) (same-refl l))
+    let there : Contains w.clauses (u.0.0, l ∷ []) = subst (λ (x : List Literal). Contains w.clauses (u.0.0, x)) one (In_Contains w.clauses u.0 u.1) in
+    let left = unit_stays w.clauses kept.numbers number c alive two cs was u.0.0 l there in
+    any_In (is_only l) (lists cs) (l ∷ []) (In_map (λ (x : ℕ × List Literal). x.1) cs (u.0.0, l ∷ []) (Contains_In cs (u.0.0, l ∷ []) left)) (same-refl l)
 
 pub work_deleted : (w : WorkState) → IsWork w → (number : ℕ) (c d : List Literal) (b : LineState) → Contains w.clauses (number, c) → two_or_more c ≡ true → PutLine w.output b (deleted_line w.output number d)
     → (cs : List (ℕ × List Literal)) (gone : RemovedNumber w.clauses cs number) → IsWork (record w { clauses = cs; output = b })
@@ -116,7 +119,6 @@ work_deleted w kept number c d b alive two put cs was =
     let place = was.place in
     let gone = was.removed in
     let last : b.last ≡ w.output.last = ap (λ (s : LineState). s.last) put.state in
-    let format : b.format ≡ w.output.format = ap (λ (s : LineState). s.format) put.state in
     record {
       unheld = kept.unheld;
       numbers = own_less w.clauses cs place gone kept.numbers;
@@ -125,13 +127,12 @@ work_deleted w kept number c d b alive two put cs was =
       units_on = kept.units_on;
       stack_on = kept.stack_on;
       distinct = kept.distinct;
-      units_held = λ h. units_less w kept number c alive two cs was (kept.units_held (ap has_hints (sym format) ∙ h));
+      units_held = units_less w kept number c alive two cs was kept.units_held;
     }
 
 pub kept_not_put : (old new : WorkState) (x : NumberedLine) (stop : LineStop) → IsWork old → NotPut old new x stop → IsWork new
 kept_not_put old new x ProofFault kept was =
     let last : new.output.last ≡ old.output.last = ap (λ (s : LineState). s.last) was.put.state in
-    let format : new.output.format ≡ old.output.format = ap (λ (s : LineState). s.format) was.put.state in
     subst IsWork (sym was.state) (record {
       unheld = kept.unheld;
       numbers = kept.numbers;
@@ -140,7 +141,7 @@ kept_not_put old new x ProofFault kept was =
       units_on = kept.units_on;
       stack_on = kept.stack_on;
       distinct = kept.distinct;
-      units_held = λ h. kept.units_held (ap has_hints (sym format) ∙ h);
+      units_held = kept.units_held;
     })
 kept_not_put old new x Full kept was = subst IsWork (sym was.1) kept
 kept_not_put old new x Memory kept was = subst IsWork (sym was) kept
@@ -230,7 +231,7 @@ distinct_more (k ∷ us) l d n =
     let away = or_parts (same l k) (has us l) n in
     and_from _ _ (ap not (has_more us l k (not_true (has us k) parts.0) (same_sym k l away.0))) (distinct_more us l parts.1 away.1)
 
-pub work_listed : (w : WorkState) → IsWork w → (l : Literal) → IsOn w.vars l → has w.units l ≡ false → (has_hints w.output.format ≡ true → is_alive_unit w l ≡ true) → (us : List Literal) → us ≡ w.units ++ l ∷ [] → IsWork (record w { units = us })
+pub work_listed : (w : WorkState) → IsWork w → (l : Literal) → IsOn w.vars l → has w.units l ≡ false → is_alive_unit w l ≡ true → (us : List Literal) → us ≡ w.units ++ l ∷ [] → IsWork (record w { units = us })
 work_listed w kept l on new alive us is = subst (λ ks. IsWork (record w { units = ks })) (sym is) (record {
   unheld = kept.unheld;
   numbers = kept.numbers;
@@ -239,7 +240,7 @@ work_listed w kept l on new alive us is = subst (λ ks. IsWork (record w { units
   units_on = All-append (IsOn w.vars) w.units (l ∷ []) kept.units_on (one_All (IsOn w.vars) l on);
   stack_on = kept.stack_on;
   distinct = distinct_more w.units l kept.distinct new;
-  units_held = λ h. All-append (λ k. is_alive_unit w k ≡ true) w.units (l ∷ []) (kept.units_held h) (one_All (λ k. is_alive_unit w k ≡ true) l (alive h));
+  units_held = All-append (λ k. is_alive_unit w k ≡ true) w.units (l ∷ []) kept.units_held (one_All (λ k. is_alive_unit w k ≡ true) l alive);
 })
 
 pub listed_silent : (w : WorkState) (l : Literal) (us : List Literal) → has w.units l ≡ false → is_alive_unit w l ≡ true → us ≡ w.units ++ l ∷ [] → IsListed (has w.units l) (is_alive_unit w l) w (record w { units = us }) l
@@ -263,7 +264,7 @@ work_listed_line w kept l on b number cs us new put cis is =
     work_listed (record w { clauses = cs; output = b })
     (work_added w kept (l ∷ []) (one_All (IsOn w.vars) l on) number b put cs cis w.ended)
     l on new
-    (λ _. ap (λ ds. list_any (is_only l) (lists ds)) cis ∙ ap (list_any (is_only l)) (lists_more w.clauses number (l ∷ []))
+    (ap (λ ds. list_any (is_only l) (lists ds)) cis ∙ ap (list_any (is_only l)) (lists_more w.clauses number (l ∷ []))
     ∙ list_any-append (is_only l) (lists w.clauses) ((l ∷ []) ∷ []) ∙ or_right _ _ (or_left _ _ (same-refl l)))
     us is
 

@@ -3,7 +3,6 @@ use Rattle.std.proofs.Common.{◌≡◌, ◌⊎◌, ℕ, ◌<◌, ◌≤◌, ari
 use Rattle.std.proofs.lemmas.Bool.{true≢false}
 use Rattle.sat_words.specs.Literal.{Literal, IsOn, code_of}
 use Rattle.sat_words.specs.Clause.{has_opposites}
-use Rattle.sat_words.specs.Formats.{has_hints}
 use Rattle.rup_model.specs.Rup.{rup}
 use Rattle.rup_model.proofs.Growth.{rup_more}
 use Rattle.rup_model.proofs.Lists.{In, In_any, In_map, map_In, In_append, In_append_left, In_append_right, Contains_In, In_Contains}
@@ -85,16 +84,16 @@ grew old new k false false e h = record {
 
 -- Hints
 
--- in a log with hints a clause follows from the clauses held alone
-pub rup_held : (w : WorkState) → IsWork w → has_hints w.output.format ≡ true → (lits : List Literal) → rup (known w) lits ≡ true → rup (lists w.clauses) lits ≡ true
-rup_held w kept h lits = rup_more (known w) (lists w.clauses) lits among
+-- a clause follows from the clauses held alone, since those of the units are among them
+pub rup_held : (w : WorkState) → IsWork w → (lits : List Literal) → rup (known w) lits ≡ true → rup (lists w.clauses) lits ≡ true
+rup_held w kept lits = rup_more (known w) (lists w.clauses) lits among
   where
     among : (d : List Literal) → In d (known w) → In d (lists w.clauses)
     among d i = elim (In_append (lists w.clauses) (unit_clauses w.units) d i) as (λ _. In d (lists w.clauses)) [
       | inl held ↦ held
       | inr unit ↦ (
           let t = map_In (λ l. l ∷ []) w.units d unit in
-          let u = In_any (is_only t.0) (lists w.clauses) (All_In (λ l. is_alive_unit w l ≡ true) w.units t.0 (kept.units_held h) t.1) in
+          let u = In_any (is_only t.0) (lists w.clauses) (All_In (λ l. is_alive_unit w l ≡ true) w.units t.0 kept.units_held t.1) in
           subst (λ (x : List Literal). In x (lists w.clauses)) (only_told t.0 u.0 u.2 ∙ t.2) u.1)
     ]
 

@@ -3,6 +3,7 @@ pub mod Steps
 pub mod LiftSteps
 pub mod Removal
 pub mod Keeping
+pub mod Held
 pub mod Weaken
 pub mod Begin
 pub mod Neighbours

@@ -15,16 +15,17 @@ use Rattle.model_stack.specs.declared.stack.Fix.{Fix}
 use Rattle.drat_text.specs.LineState.{LineState}
 use Rattle.drat_text.specs.JournalText.{Origin}
 use Rattle.drat_text.proofs.JournalLines.{has_text_begun}
-use Rattle.simp_base.specs.WorkState.{IsWork, lists, is_alive_unit, resumed}
+use Rattle.simp_base.specs.WorkState.{IsWork, lists, is_alive_unit, resumed, unit_lits}
 use Rattle.simp_base.specs.Log.{IsPassedOver, Stands}
 use Rattle.simp_base.specs.Parts.{takes_part}
 use Rattle.simp_base.specs.Resumed.{Resumes}
 use Rattle.simp_base.proofs.Lists.{All_In, In_All}
 use Rattle.simp_base.proofs.Keeping.{clause_of_on}
+use Rattle.simp_base.proofs.Held.{held_alive}
 use Rattle.simp_base.proofs.Order.{in_book}
 use Rattle.simp_base.proofs.Steps.{alive_comes}
 
-module _ (F : List (List Literal)) (vars : ℕ) (cells : List (ℕ × List Literal)) (units : List Literal) (stack : List Fix) (out : LineState) (journal : List Entry)
+module _ (F : List (List Literal)) (vars : ℕ) (cells : List (ℕ × List Literal)) (units : List (Literal × ℕ)) (stack : List Fix) (out : LineState) (journal : List Entry)
     (r : Resumes F vars cells units stack out journal) where
   -- the literals of what was given or added are on the variables
   among_on : (c d : List Literal) → In d (F ++ added journal) → ((l : Literal) → has c l ≡ true → has d l ≡ true) → All (IsOn vars) c
@@ -54,10 +55,10 @@ module _ (F : List (List Literal)) (vars : ℕ) (cells : List (ℕ × List Liter
         let t = map_In (λ (x : ℕ × List Literal). x.1) cells c i in
         let there = there_in t.0 t.1 in
         subst (λ (d : List Literal). All (IsOn vars) d) (there.2 ∙ t.2) (clause_of_on vars there.0 (alive_on t.0.0 there.0 there.1))));
-    units_on = In_All (IsOn vars) units (λ l i. unit_on l (All_In (λ k. is_told F journal k ≡ true) units l r.told i));
+    units_on = In_All (IsOn vars) (unit_lits units) (λ l i. unit_on l (All_In (λ k. is_told F journal k ≡ true) (unit_lits units) l r.told i));
     stack_on = r.stack_on;
     distinct = r.distinct;
-    units_held = r.units_held;
+    units_held = held_alive cells units r.units_held;
   }
 
   not_ended : false ≡ list_any is_empty (added journal)
@@ -69,7 +70,7 @@ module _ (F : List (List Literal)) (vars : ℕ) (cells : List (ℕ × List Liter
     | inr idle ↦ inr (record { idle = idle; on = alive_on n c is })
   ]
 
-module _ (F : List (List Literal)) (vars : ℕ) (cells : List (ℕ × List Literal)) (units : List Literal) (stack : List Fix) (out : LineState) (unspent : out.spent ≡ false) (journal : List Entry)
+module _ (F : List (List Literal)) (vars : ℕ) (cells : List (ℕ × List Literal)) (units : List (Literal × ℕ)) (stack : List Fix) (out : LineState) (unspent : out.spent ≡ false) (journal : List Entry)
     (r : Resumes F vars cells units stack out journal) where
   abbrev origin : Origin
   origin = record { formula = F; journal = journal; output = out }
@@ -87,8 +88,9 @@ module _ (F : List (List Literal)) (vars : ℕ) (cells : List (ℕ × List Liter
     ended = not_ended F vars cells units stack out (journal ++ []) over;
     held = over.held;
     all = all_or_passed F vars cells units stack out (journal ++ []) over;
+    alone = over.alone;
     told = over.told;
-    every = λ l t. or_left (has units l) (is_alive_unit (resumed vars cells units stack out) l) (over.every l t);
+    every = λ l t. or_left (has (unit_lits units) l) (is_alive_unit (resumed vars cells units stack out) l) (over.every l t);
     lines = record {
       entries = over.entries;
       last = over.last;

@@ -168,6 +168,7 @@ module _ (o : Origin) (mine : List Entry) (w : WorkState) (h : Stands o mine w) 
           ended = h.ended;
           held = h.held;
           all = h.all;
+          alone = h.alone;
           told = h.told;
           every = h.every;
           lines = subst (λ v. HasLines o mine w.vars v) (sym failed.state) (record {
@@ -234,6 +235,22 @@ module _ (o : Origin) (mine : List Entry) (w : WorkState) (h : Stands o mine w) 
         ∙ ap (λ (d : List Literal). Some d) (order_twice lits ∙ b)))
         (Contains_apart w.clauses (number, clause_of lits) (n, c) k)
 
+    alone_next : (n : ℕ) (l : Literal) → Contains (w.clauses ++ (number, clause_of lits) ∷ []) (n, l ∷ []) → (book FA (journal_of o (mine ++ ea ∷ []))).clause n ≡ Some (l ∷ [])
+    alone_next n l k =
+        ap (λ (b : Book). b.clause n) book_is
+        ∙ ⊎_elim
+        (λ (old : Contains w.clauses (n, l ∷ [])).
+        (let is = h.alone n l old in
+        let lt = clause_below (book FA JA) (alive FA (lines FA JA)) n (l ∷ []) (journal_matches FA JA h.sound.fits) is in
+        put_else (book FA JA).clause (book FA JA).next (Some (clause_of lits)) n (λ q. omega arith) ∙ is))
+        (λ (q : (number, clause_of lits) ≡ (n, l ∷ [])).
+        (let a : number ≡ n = ap (λ (p : ℕ × List Literal). p.0) q in
+        let b : clause_of lits ≡ l ∷ [] = ap (λ (p : ℕ × List Literal). p.1) q in
+        ap (put (book FA JA).clause (book FA JA).next (Some (clause_of lits))) (sym a ∙ next)
+        ∙ put_here (book FA JA).clause (book FA JA).next (Some (clause_of lits))
+        ∙ ap (λ (d : List Literal). Some d) b))
+        (Contains_apart w.clauses (number, clause_of lits) (n, l ∷ []) k)
+
     all_next : (n : ℕ) (c : List Literal) → (book FA (journal_of o (mine ++ ea ∷ []))).clause n ≡ Some c → Contains (w.clauses ++ (number, clause_of lits) ∷ []) (n, clause_of c) ⊎ IsPassedOver w.unheld c
     all_next n c is =
         at_put (book FA JA).clause (book FA JA).next (Some (clause_of lits)) (λ q. q ≡ Some c → Contains (w.clauses ++ (number, clause_of lits) ∷ []) (n, clause_of c) ⊎ IsPassedOver w.unheld c) n
@@ -269,6 +286,7 @@ module _ (o : Origin) (mine : List Entry) (w : WorkState) (h : Stands o mine w) 
       ended = ended_next;
       held = held_next;
       all = all_next;
+      alone = alone_next;
       told = all_told_next o mine w h ea xa;
       every = every_next;
       lines = has_lines_next o mine w h ea xa refl valid (record { numbered = next; names = tt }) going b unspent line (let l = h.lines.last in omega arith);
@@ -341,6 +359,7 @@ module _ (o : Origin) (mine : List Entry) (w : WorkState) (h : Stands o mine w) 
           (λ here none. absurd (cc))
           (λ else is_old. elim (h.all n d is_old) as (λ _. Contains cs (n, clause_of d) ⊎ IsPassedOver w.unheld d) [ inl i ↦ inl ((others n (clause_of d)).1 (i, else)) | inr p ↦ inr p ])
           (sym (book_less n) ∙ is);
+      alone = λ n l k. (let was = (others n (l ∷ [])).0 k in book_less n ∙ put_else (book FD JD).clause number None n was.1 ∙ h.alone n l was.0);
       told = all_told_next o mine w h ed xd;
       every = every_left;
       lines = has_lines_next o mine w h ed xd one_del valid_del fit_del going b unspent line h.lines.last;
@@ -491,6 +510,7 @@ stands_listed o mine w h l t = record {
   ended = h.ended;
   held = h.held;
   all = h.all;
+  alone = h.alone;
   every = λ k e. listed_more w l k (h.every k e);
   told = All-append (λ k. is_told o.formula (journal_of o mine) k ≡ true) w.units (l ∷ []) h.told (one_All (λ k. is_told o.formula (journal_of o mine) k ≡ true) l t);
   lines = h.lines;
@@ -563,6 +583,7 @@ stands_pushed o mine w h S = nothing_more o mine (record w { stack = S }) (recor
   ended = h.ended;
   held = h.held;
   all = h.all;
+  alone = h.alone;
   told = h.told;
   every = h.every;
   lines = h.lines;

@@ -51,6 +51,7 @@ module _ (w : WorkState) (u : ℕ) (le : w.vars ≤ u) where
     ended = h.ended;
     held = h.held;
     all = h.all;
+    alone = h.alone;
     told = h.told;
     every = h.every;
     lines = record {

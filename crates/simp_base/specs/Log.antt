@@ -1,5 +1,5 @@
 -- The log of a simplifier: one journal, whose lines its output has and whose clauses are those of the work.
-use Rattle.std.specs.Prelude.{◌≡◌, ◌⊎◌, ◌≤◌, ◌^◌, ℕ, ◌+◌, true, false, List, ◌++◌, length, All, Contains, Some}
+use Rattle.std.specs.Prelude.{◌≡◌, ◌⊎◌, ◌≤◌, ◌^◌, ℕ, ◌+◌, true, false, List, [], ◌∷◌, ◌++◌, length, All, Contains, Some}
 use Rattle.std.specs.List.{list_any}
 use Rattle.std.specs.Option.{option_map}
 use Rattle.sat_words.specs.Literal.{Literal, IsOn}
@@ -32,10 +32,11 @@ pub record IsPassedOver (unheld : ℕ) (c : List Literal) : Type 0 where
   pub idle : takes_part c ≡ false
   pub on : All (IsOn unheld) c
 
--- the work stands over this origin with these entries of its own, which are the ruler's: each line of the one journal is
--- valid where it stands, and shown by its hints if the log has hints; the clauses are those that it leaves alive, each under its number
--- and in the order of `Clause`, except for some that are passed over; each listed unit is in the formula or was added, and each unit that is in the formula or was
--- added is listed or a clause; and the output has the lines
+-- the work stands over this origin with these entries of its own, which are the ruler's: each line of the one journal is valid
+-- where it stands, and shown by its hints if the log has hints; the clauses are those that it leaves alive, each under its number
+-- and in the order of `Clause`, except for some that are passed over; a unit clause is written there as it is here; each listed
+-- unit is in the formula or was added, and each unit that is in the formula or was added is listed or a clause; and the output
+-- has the lines
 pub record Stands (o : Origin) (mine : List Entry) (w : WorkState) : Type 0 where
   pub sound : LogSound o.formula (journal_of o mine)
   pub hinted : has_hints w.output.format ≡ true → AreHinted o.formula (journal_of o mine)
@@ -44,6 +45,7 @@ pub record Stands (o : Origin) (mine : List Entry) (w : WorkState) : Type 0 wher
   pub ended : w.ended ≡ list_any is_empty (added (journal_of o mine))
   pub held : (n : ℕ) (c : List Literal) → Contains w.clauses (n, c) → option_map clause_of ((book o.formula (journal_of o mine)).clause n) ≡ Some c
   pub all : (n : ℕ) (c : List Literal) → (book o.formula (journal_of o mine)).clause n ≡ Some c → Contains w.clauses (n, clause_of c) ⊎ IsPassedOver w.unheld c
+  pub alone : (n : ℕ) (l : Literal) → Contains w.clauses (n, l ∷ []) → (book o.formula (journal_of o mine)).clause n ≡ Some (l ∷ [])
   pub told : All (λ l. is_told o.formula (journal_of o mine) l ≡ true) w.units
   pub every : (l : Literal) → is_told o.formula (journal_of o mine) l ≡ true → is_unit w l ≡ true
   pub lines : HasLines o mine w.vars w.output

@@ -81,9 +81,10 @@ pub record RemovedNumber (old new : List (ℕ × List Literal)) (number : ℕ) :
   pub here : (d : ℕ × List Literal) → (slice_index_or old place d).0 ≡ number
   pub removed : Removed old new place
 
--- the units in their order; how many codes of literals there are; for how many more units and codes there is room
+-- the units in their order, each with the number of its clause; how many codes of literals there are; for how many more units and
+-- codes there is room
 pub record UnitData : Type 0 where
-  pub units : List Literal
+  pub items : List (Literal × ℕ)
   pub codes : ℕ
   pub room : ℕ
   pub code_room : ℕ

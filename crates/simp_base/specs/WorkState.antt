@@ -1,10 +1,9 @@
 -- What a simplifier works on.
-use Rattle.std.specs.Prelude.{◌≡◌, ◌≢◌, ℕ, ◌≤◌, ◌<◌, ◌||◌, length, Bool, true, false, suc, List, [], ◌∷◌, ◌++◌, map, All}
+use Rattle.std.specs.Prelude.{◌≡◌, ◌≢◌, ℕ, ◌≤◌, ◌<◌, ◌||◌, length, Bool, true, false, suc, List, [], ◌∷◌, ◌++◌, map, All, Contains}
 use Rattle.std.specs.List.{list_any, slice_index_or}
 use Rattle.sat_words.specs.Literal.{Literal, IsOn, same}
 use Rattle.sat_words.specs.Clause.{has, distinct_lits, clause_of}
 use Rattle.sat_words.specs.FormulaData.{FormulaData}
-use Rattle.sat_words.specs.Formats.{has_hints}
 use Rattle.model_stack.specs.declared.stack.Fix.{Fix}
 use Rattle.drat_text.specs.LineState.{LineState}
 
@@ -26,6 +25,14 @@ lists cs = map (λ c. c.1) cs
 -- the units as clauses
 abbrev pub unit_clauses : List Literal → List (List Literal)
 unit_clauses ls = map (λ l. l ∷ []) ls
+
+-- the literals of units that have the numbers of their clauses
+abbrev pub unit_lits : List (Literal × ℕ) → List Literal
+unit_lits us = map (λ u. u.0) us
+
+-- the clauses of such units, each with its number
+abbrev pub unit_cells : List (Literal × ℕ) → List (ℕ × List Literal)
+unit_cells us = map (λ u. (u.1, u.0 ∷ [])) us
 
 -- what a line may rest on: the clauses alive, and the units listed
 abbrev pub known : WorkState → List (List Literal)
@@ -53,6 +60,10 @@ has_unit w v = is_unit w (record { var = v; neg = false }) || is_unit w (record 
 
 -- What is kept
 
+-- the clause of each of these units is among the clauses, under the unit's number
+abbrev pub AreHeld : List (ℕ × List Literal) → List (Literal × ℕ) → Type 0
+AreHeld cells units = All (λ u. Contains cells (u.1, u.0 ∷ [])) units
+
 -- no two of the clauses have one number
 abbrev pub HaveOwnNumbers : List (ℕ × List Literal) → Type 0
 HaveOwnNumbers cs = (i j : ℕ) (d : ℕ × List Literal) → i < j → j < length cs → (slice_index_or cs i d).0 ≢ (slice_index_or cs j d).0
@@ -63,7 +74,7 @@ pub record IsFixOn (vars : ℕ) (fix : Fix) : Type 0 where
   pub clause : All (IsOn vars) fix.clause
 
 -- each clause has a number of its own, which was given; all literals are on the variables, those of clauses not held among them;
--- no unit is listed twice; if the log has hints, the clause of each listed unit is held
+-- no unit is listed twice; the clause of each listed unit is held
 pub record IsWork (w : WorkState) : Type 0 where
   pub unheld : w.unheld ≤ w.vars
   pub numbers : HaveOwnNumbers w.clauses
@@ -72,7 +83,7 @@ pub record IsWork (w : WorkState) : Type 0 where
   pub units_on : All (IsOn w.vars) w.units
   pub stack_on : All (IsFixOn w.vars) w.stack
   pub distinct : distinct_lits w.units ≡ true
-  pub units_held : has_hints w.output.format ≡ true → All (λ l. is_alive_unit w l ≡ true) w.units
+  pub units_held : All (λ l. is_alive_unit w l ≡ true) w.units
 
 -- How it begins
 
@@ -85,6 +96,7 @@ numbered n (c ∷ F) = (n, clause_of c) ∷ numbered (suc n) F
 abbrev pub begun : FormulaData → LineState → WorkState
 begun F out = record { vars = F.vars; unheld = 0; clauses = numbered 1 F.clauses; units = []; stack = []; ended = false; output = out }
 
--- it goes on with these clauses, units and entries of the stack; other clauses that are alive may have any of the variables
-abbrev pub resumed : ℕ → List (ℕ × List Literal) → List Literal → List Fix → LineState → WorkState
-resumed vars cells units stack out = record { vars = vars; unheld = vars; clauses = cells; units = units; stack = stack; ended = false; output = out }
+-- it goes on with these clauses, units with their numbers, and entries of the stack; other clauses that are alive may have any of
+-- the variables
+abbrev pub resumed : ℕ → List (ℕ × List Literal) → List (Literal × ℕ) → List Fix → LineState → WorkState
+resumed vars cells units stack out = record { vars = vars; unheld = vars; clauses = cells; units = unit_lits units; stack = stack; ended = false; output = out }

@@ -7,7 +7,7 @@ ghost use Rattle.sat_words.specs.Literal.{Literal, IsOn, code_of};
 ghost use Rattle.sat_words.specs.Clause.{has, has_opposites, two_or_more};
 ghost use Rattle.sat_words.specs.Formats.{has_hints};
 ghost use Rattle.rup_model.specs.Rup.{rup};
-ghost use Rattle.simp_base.specs.WorkState.{IsWork, HaveOwnNumbers, known, lists, begun, is_unit, has_unit};
+ghost use Rattle.simp_base.specs.WorkState.{IsWork, HaveOwnNumbers, AreHeld, known, lists, begun, is_unit, has_unit, unit_lits};
 ghost use Rattle.simp_base.specs.Log.{Stands, Continues};
 ghost use Rattle.simp_base.specs.Calls.{ruler_deletes, on_ok, AddsToLog, ListsInLog, WasAdded, WasAddedLine, WasDeleted, WasListed};
 
@@ -40,8 +40,8 @@ pub enum Run {
 pub struct Parts<L: LineOut> {
     /// The clauses alive, each with its number.
     pub clauses: Vec<(u64, Clause)>,
-    /// The units listed.
-    pub units: Vec<Lit>,
+    /// The units listed, each with the number of its clause.
+    pub units: Vec<(Lit, u64)>,
     /// What models have to be mended for.
     pub stack: Stack,
     /// Where the lines go.
@@ -68,7 +68,7 @@ pub struct Work<L: LineOut> {
 
 impl<L: LineOut> Model for Work<L> {
     ghost use Rattle.std.specs.Prelude.{◌≡◌, ◌+◌, ◌*◌};
-    ghost use Rattle.simp_base.specs.WorkState.{WorkState, IsWork};
+    ghost use Rattle.simp_base.specs.WorkState.{WorkState, IsWork, AreHeld, unit_lits};
 
     ghost Value = { WorkState };
 
@@ -76,7 +76,7 @@ impl<L: LineOut> Model for Work<L> {
       vars = w.vars;
       unheld = w.unheld;
       clauses = w.clauses.clauses;
-      units = w.units.units;
+      units = unit_lits w.units.items;
       stack = w.stack;
       ended = w.ended;
       output = L.told w.output;
@@ -86,11 +86,11 @@ impl<L: LineOut> Model for Work<L> {
       vars = w.vars;
       unheld = w.unheld;
       clauses = w.clauses.clauses;
-      units = w.units.units;
+      units = unit_lits w.units.items;
       stack = w.stack;
       ended = w.ended;
       output = L.told w.output;
-    }) × (w.clauses.next ≡ (L.told w.output).last + 1) × (w.clauses.codes ≡ 2 * (w.vars + 1)) × (w.units.codes ≡ 2 * (w.vars + 1)) × (w.lines ≡ (L.told w.output).entries) };
+    }) × (w.clauses.next ≡ (L.told w.output).last + 1) × (w.clauses.codes ≡ 2 * (w.vars + 1)) × (w.units.codes ≡ 2 * (w.vars + 1)) × (w.lines ≡ (L.told w.output).entries) × AreHeld w.clauses.clauses w.units.items };
 }
 
 /// Puts the line that adds a clause to these, with hints if the format has them. Answers its number.
@@ -255,8 +255,8 @@ impl<L: LineOut> Work<L> {
         if self.units.make_room().is_err() {
             return Err(LineStop::Memory);
         }
-        if self.clauses.is_alone(lit) {
-            self.units.push(lit);
+        if let Some(number) = self.clauses.unit_number(lit) {
+            self.units.push(lit, number);
             return Ok(());
         }
         let Ok(clause) = Clause::from_lits(self.alloc, &[lit]) else {
@@ -270,7 +270,7 @@ impl<L: LineOut> Work<L> {
             Ok(number) => {
                 self.lines += 1;
                 self.clauses.push(number, clause);
-                self.units.push(lit);
+                self.units.push(lit, number);
                 Ok(())
             }
             Err(stop) => Err(stop),
@@ -297,7 +297,8 @@ impl<L: LineOut> Work<L> {
     /// Takes the work apart.
     pub fn into_parts(self) -> Parts<L>
         ensures clauses { result.clauses.items ≡ self.clauses }
-        ensures units { result.units.items ≡ self.units }
+        ensures units { unit_lits result.units.items ≡ self.units }
+        ensures held { AreHeld result.clauses.items result.units.items }
         ensures stack { result.stack ≡ self.stack }
         ensures output { L.told result.output ≡ self.output }
     {

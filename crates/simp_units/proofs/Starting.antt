@@ -1,6 +1,7 @@
 -- The values that are the units listed.
-use Rattle.std.proofs.Common.{◌≡◌, ℕ, zero, suc, ◌+◌, ◌<◌, Bool, true, false, not, List, [], ◌∷◌, ◌++◌, length, take, get_or, set, replicate, refl, sym, ap, ◌∙◌, subst, inl, inr, ⊎_elim, Option, Some, None}
-use Rattle.std.proofs.lemmas.List.{take_more}
+use Rattle.std.proofs.Common.{◌≡◌, ℕ, zero, suc, ◌+◌, ◌<◌, Bool, true, false, not, List, [], ◌∷◌, ◌++◌, length, take, get_or, set, replicate, refl, sym, ap, ◌∙◌, subst, inl, inr, ⊎_elim, Option, Some, None, arith}
+use Rattle.std.specs.List.{All}
+use Rattle.std.proofs.lemmas.List.{take_more, take-map}
 use Rattle.std.proofs.lemmas.Bool.{or_left, and_from, cases_Bool, true≢false, false≢true}
 use Rattle.sat_words.specs.Literal.{Literal, opposite}
 use Rattle.sat_words.specs.Clause.{has}
@@ -12,10 +13,11 @@ use Rattle.rup_model.proofs.Lists.{In, In_has, has_In, In_append, In_append_left
 use Rattle.rup_model.proofs.Covers.{both_true}
 use Rattle.rup_model.proofs.Closed.{Rounds-step}
 use Rattle.rup_model.proofs.AssignedLemmas.{is_true-set, is_true-set_stays, is_true-set_itself}
-use Rattle.simp_base.specs.WorkState.{WorkState, known}
+use Rattle.simp_base.specs.WorkState.{WorkState, known, unit_lits}
 use Rattle.simp_units.specs.Begun.{Oppose}
 use Rattle.simp_units.specs.Progress.{Progress}
 use Rattle.simp_base.proofs.Known.{unit_among}
+use Rattle.simp_base.proofs.Held.{many_lits, lit_at_place}
 
 -- a unit clause gives its literal in the first round
 Rounds-unit : (G : List (List Literal)) (l : Literal) → In (l ∷ []) G → conflicts G [] ≡ false → Rounds G [] l ≡ true
@@ -94,3 +96,28 @@ opposed_here units a i l lt is was bad = record {
   there = In_has units l (subst (λ x. In x units) (sym is) (In_get_or units i l lt));
   negated = In_has units (opposite l) (In_take i units (opposite l) (has_In (take i units) (opposite l) (was (opposite l) ∙ bad)));
 }
+
+-- Units with numbers
+
+module _ (units : List (Literal × ℕ)) (a : List (Option Bool)) (i : ℕ) (u : Literal × ℕ) (lt : i < length units) (is : u ≡ get_or units i u)
+    (was : (k : Literal) → has (unit_lits (take i units)) k ≡ is_true a k) where
+  inside : i < length (unit_lits units)
+  inside = let many = many_lits units in omega arith
+
+  same_lits : (j : ℕ) → take j (unit_lits units) ≡ unit_lits (take j units)
+  same_lits j = take-map (λ (v : Literal × ℕ). v.0) j units
+
+  were : (k : Literal) → has (take i (unit_lits units)) k ≡ is_true a k
+  were k = ap (λ us. has us k) (same_lits i) ∙ was k
+
+  pub loaded_pair : is_true a (opposite u.0) ≡ false → u.0.var < length a → (k : Literal) → has (unit_lits (take (i + 1) units)) k ≡ is_true (set a u.0.var (Some (not u.0.neg))) k
+  loaded_pair free range k = ap (λ us. has us k) (sym (same_lits (i + 1))) ∙ loaded_more (unit_lits units) a i u.0 inside (lit_at_place units i u lt is) were free range k
+
+  pub opposed_pair : is_true a (opposite u.0) ≡ true → Oppose (unit_lits units)
+  opposed_pair bad = opposed_here (unit_lits units) a i u.0 inside (lit_at_place units i u lt is) were bad
+
+-- the variable of a unit is in range
+pub pair_in_range : (units : List (Literal × ℕ)) (i n : ℕ) (u : Literal × ℕ) → i < length units → u ≡ get_or units i u → All (λ l. l.var < n) (unit_lits units) → u.0.var < n
+pair_in_range units i n u lt is on =
+    let many = many_lits units in
+    subst (λ (l : Literal). l.var < n) (sym (lit_at_place units i u lt is)) (on i u.0 (omega arith))

@@ -75,7 +75,7 @@ fn spread<L: LineOut>(work: &mut Work<L>, values: &mut Values) -> Result<Propaga
         if next >= work.units().len() {
             return Ok(Propagation::Quiet);
         }
-        let lit = work.units()[next];
+        let (lit, _) = work.units()[next];
         match work.numbers_with(lit.not()) {
             Err(stop) => return Err(stop),
             Ok(numbers) => match visit(work, values, numbers.as_slice()) {

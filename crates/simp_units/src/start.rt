@@ -3,6 +3,7 @@ ghost use Rattle.std.specs.Prelude.{◌≡◌, ◌<◌, ◌+◌, ℕ, List, true
 ghost use Rattle.sat_words.specs.Literal.{Literal, IsOn};
 ghost use Rattle.sat_words.specs.Clause.{has};
 ghost use Rattle.sat_words.specs.Values.{is_true};
+ghost use Rattle.simp_base.specs.WorkState.{unit_lits};
 ghost use Rattle.simp_units.specs.Begun.{WasLoaded};
 
 use drat_text::{LineOut, LineStop};
@@ -11,16 +12,16 @@ use simp_base::Work;
 use std::alloc::Global;
 
 /// Makes the units true, one after another. Answers whether none of them was false before its turn.
-pub(crate) fn load(units: &[Lit], values: &mut Values) -> bool
+pub(crate) fn load(units: &[(Lit, u64)], values: &mut Values) -> bool
     requires blank { (l : Literal) → is_true values.old l ≡ false }
-    requires on { All (λ l. l.var < length values.old) units.now }
-    ensures { WasLoaded units.now values.old values.new result }
+    requires on { All (λ l. l.var < length values.old) (unit_lits units.now) }
+    ensures { WasLoaded (unit_lits units.now) values.old values.new result }
 {
-    for lit in units {
-        if values.is_false(*lit) {
+    for unit in units {
+        if values.is_false(unit.0) {
             return false;
         }
-        values.set(*lit);
+        values.set(unit.0);
     }
     true
 }

@@ -3,7 +3,6 @@ use Rattle.std.proofs.Common.{◌≡◌, ◌≢◌, ℕ, zero, suc, ◌^◌, ◌
 use Rattle.std.specs.List.{list_any, list_all, slice_get, AllByRecursion, IsDistinct}
 use Rattle.std.specs.Option.{option_map, unwrap_or}
 use Rattle.std.proofs.lemmas.Bool.{and_parts, or_parts}
-use Rattle.std.proofs.lemmas.List.Sums.{AllPass-from_list_all}
 use mathlib.Core.Logic.{dite}
 use native.Mathlib.Decide.{ℕ_discrete}
 use Rattle.sat_words.specs.Literal.{Literal}
@@ -11,13 +10,14 @@ use Rattle.sat_words.specs.Clause.{distinct_lits, clause_of}
 use Rattle.rup_model.specs.Basics.{one_if}
 use Rattle.rup_model.specs.Journal.{formula_clause, formula_book, is_told}
 use Rattle.rup_model.specs.Opening.{Start, IsStart}
-use Rattle.rup_model.proofs.Lists.{In, all_In}
+use Rattle.rup_model.proofs.Lists.{In, map_In, all_In}
 use Rattle.rup_model.proofs.ProgramOpening.{All_from_In}
 use Rattle.share_core.specs.declared.stored.ClauseAt.{ClauseAt}
-use Rattle.share_core.specs.State.{times_at, IsCoreOpening}
+use Rattle.share_core.specs.State.{times_at, ArePaired, unit_lits, unit_numbers, IsCoreOpening}
 use Rattle.share_core.specs.Machine.{start_at, core_opening}
-use Rattle.test_core.specs.Fitting.{start_fits, stand_apart, opens}
-use Rattle.share_core.proofs.Deciding.{long_from}
+use Rattle.test_core.specs.Fitting.{start_fits, unit_fits, stand_apart, opens}
+use Rattle.share_core.proofs.Deciding.{long_from, unit_from}
+use Rattle.share_core.proofs.Pairs.{unit_told}
 
 not_true : (b : Bool) → not b ≡ true → b ≡ false
 not_true true h = absurd (true≢false (sym h))
@@ -87,8 +87,19 @@ placed_in F hs e h i z =
     let a = and_parts (not (h.address == 0)) _ m.1 in
     true≢false (sym a.0 ∙ ap not (eq-eqb h.address 0 z))
 
-pub opening_from : (F : List (List Literal)) (ps : List (ℕ × ℕ)) (us : List Literal) (rings depth limit : ℕ) → opens F (map (start_at F) ps) us rings depth limit ≡ true → IsCoreOpening (core_opening F ps us rings depth limit)
-opening_from F ps us rings depth limit e =
+-- the units have their numbers
+paired_from : (F : List (List Literal)) (us : List (Literal × ℕ)) → list_all (unit_fits F) us ≡ true → ArePaired (formula_book F) (unit_lits us) (unit_numbers us)
+paired_from F [] e = tt
+paired_from F (u ∷ us) e = let a = and_parts (unit_fits F u) (list_all (unit_fits F) us) e in (unit_from u.0 (formula_clause F u.1) a.0, paired_from F us a.1)
+
+-- and are told
+told_from : (F : List (List Literal)) (us : List (Literal × ℕ)) → list_all (unit_fits F) us ≡ true → (l : Literal) → In l (unit_lits us) → is_told F [] l ≡ true
+told_from F us e l i =
+    let t = map_In (λ (u : Literal × ℕ). u.0) us l i in
+    subst (λ (k : Literal). is_told F [] k ≡ true) t.2 (unit_told F [] t.0.1 t.0.0 tt (unit_from t.0.0 (formula_clause F t.0.1) (all_In (unit_fits F) us t.0 e t.1)))
+
+pub opening_from : (F : List (List Literal)) (ps : List (ℕ × ℕ)) (us : List (Literal × ℕ)) (rings depth limit : ℕ) (hinted : Bool) → opens F (map (start_at F) ps) us rings depth limit ≡ true → IsCoreOpening (core_opening F ps us rings depth limit hinted)
+opening_from F ps us rings depth limit hinted e =
     let hs = map (start_at F) ps in
     let a = and_parts (leb 1 rings) _ e in
     let b = and_parts (leb rings 16) _ a.1 in
@@ -97,7 +108,7 @@ opening_from F ps us rings depth limit e =
     let few = and_parts (leb limit (2 ^ 63)) _ m.1 in
     let c = and_parts (list_all (start_fits F) hs) _ few.1 in
     let d = and_parts (stand_apart hs) _ c.1 in
-    let u = and_parts (list_all (is_told F []) us) (distinct_lits us) d.1 in
+    let u = and_parts (list_all (unit_fits F) us) (distinct_lits (unit_lits us)) d.1 in
     record {
       some_ring = leb_yes 1 rings a.0;
       few_rings = leb_yes rings 16 b.0;
@@ -109,11 +120,12 @@ opening_from F ps us rings depth limit e =
         accepted = tt;
         starts = All_from_In _ _ (starts_in F ps c.0);
         numbers = distinct hs d.0;
-        told = AllPass-from_list_all (is_told F []) us u.0;
+        told = All_from_In _ _ (told_from F us u.0);
         distinct = u.1;
       };
       room = omega arith;
       placed = All_from_In _ _ (placed_in F hs c.0);
       apart = once hs d.0;
+      paired = paired_from F us u.0;
       limited = leb_yes limit (2 ^ 63) few.0;
     }

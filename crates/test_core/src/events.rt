@@ -3,8 +3,9 @@
 // A table has a line for each event: the ring, what it does, and whether that is done or refused. In the line
 //     0 learn 50 : 1 2 = refused # no turn
 // ring 0 is to learn the clause of 1 and 2, with a cell at 50. Literals are as in a file, and a comment stands behind '#'.
+// In a log with hints they stand behind the literals, after 'by'. A unit is listed 'as' the clause with a number.
 // Behind the line "leaves" stands what is seen of the core then, as `seen` writes it.
-use rup_model::Kind;
+use rup_model::{ClauseNumbers, Kind};
 use sat_words::{Lit, Lits};
 use share_core::{Event, Step};
 use std::alloc::Global;
@@ -43,22 +44,67 @@ fn kind(word: &str) -> Option<Kind> {
     }
 }
 
+/// The words up to 'by', and the numbers after it.
+fn hinted_words(
+    alloc: Global,
+    words: &[&'static str],
+) -> Result<(Vec<&'static str>, ClauseNumbers), Fail> {
+    let mut before = Vec::new(alloc);
+    let mut numbers = Vec::new(alloc);
+    let mut hints = false;
+    for word in words {
+        if hints {
+            numbers.push(word.parse::<u64>()?)?;
+        } else if *word == "by" {
+            hints = true;
+        } else {
+            before.push(*word)?;
+        }
+    }
+    Ok((
+        before,
+        ClauseNumbers::from_slice(alloc, numbers.as_slice())?,
+    ))
+}
+
 /// A clause that is added, with the address of its cell, or a unit.
 fn addition(alloc: Global, ring: u32, kind: Kind, words: &[&'static str]) -> Result<Event, Fail> {
-    match words {
+    let (words, hints) = hinted_words(alloc, words)?;
+    match words.as_slice() {
         ["unit", n] => Ok(Event::AddUnit {
             ring,
             kind,
             lit: lit(*n)?,
+            hints,
         }),
         [address, ":", ints @ ..] => Ok(Event::AddClause {
             ring,
             kind,
             lits: lits(alloc, ints)?,
+            hints,
             address: address.parse()?,
         }),
         _ => Err(Fail::from("no clause")),
     }
+}
+
+fn empty(alloc: Global, ring: u32, words: &[&'static str]) -> Result<Event, Fail> {
+    let (words, hints) = hinted_words(alloc, words)?;
+    match words.as_slice() {
+        [] => Ok(Event::AddEmpty { ring, hints }),
+        _ => Err(Fail::from("no empty clause")),
+    }
+}
+
+fn publish(ring: u32, words: &[&'static str]) -> Result<Event, Fail> {
+    let [n, "as", number] = words else {
+        return Err(Fail::from("no unit with its number"));
+    };
+    Ok(Event::Publish {
+        ring,
+        lit: lit(*n)?,
+        number: number.parse()?,
+    })
 }
 
 fn put(ring: u32, words: &[&'static str]) -> Result<Event, Fail> {
@@ -92,7 +138,6 @@ fn plain_event(ring: u32, word: &str) -> Result<Event, Fail> {
         "grant" => Ok(Event::Grant { ring }),
         "take-turn" => Ok(Event::TakeTurn { ring }),
         "give-turn" => Ok(Event::GiveTurn { ring }),
-        "empty" => Ok(Event::AddEmpty { ring }),
         "reduce" => Ok(Event::Reduce { ring }),
         "see" => Ok(Event::See { ring }),
         "draw" => Ok(Event::Draw { ring }),
@@ -103,10 +148,6 @@ fn plain_event(ring: u32, word: &str) -> Result<Event, Fail> {
 /// An event that is told by a word and a number.
 fn numbered_event(ring: u32, word: &str, number: &str) -> Result<Event, Fail> {
     match word {
-        "publish" => Ok(Event::Publish {
-            ring,
-            lit: lit(number)?,
-        }),
         "stop" => Ok(Event::Stop {
             ring,
             kind: number.parse()?,
@@ -138,6 +179,8 @@ fn event(
         return addition(alloc, ring, kind, words);
     }
     match word {
+        "empty" => empty(alloc, ring, words),
+        "publish" => publish(ring, words),
         "put" => put(ring, words),
         "get" => get(ring, words),
         _ => match words {

@@ -17,7 +17,7 @@ pub(crate) const NO_RINGS: &str = "\
 2 bury 20 = refused
 2 put 20 for 0 class 0 place 0 = refused
 2 get from 0 class 0 place 0 = refused
-2 publish 2 = refused
+2 publish 2 as 1 = refused
 2 see = refused
 2 stop 1 = refused
 0 grant = done
@@ -30,7 +30,7 @@ leaves
 25 : clause 2, count 2, held 1 by 0
 30 : clause 3, count 2, held 1 by 0
 slot of 0 for 1 class 0 place 0 : 20
-units, seen 0 0 0 0
+units seen 0 0 0 0
 ";
 
 /// The turn and the grants.
@@ -52,7 +52,7 @@ leaves
 20 : clause 1, count 2, held 1 by 0
 25 : clause 2, count 2, held 1 by 0
 30 : clause 3, count 2, held 1 by 0
-units, seen 0 0 0 0
+units seen 0 0 0 0
 turn of 1
 ";
 
@@ -97,7 +97,7 @@ leaves
 line 2 1 0
 line 1 2 0
 line 1 2 0
-units, seen 0 0 0 0
+units seen 0 0 0 0
 turn of 1
 drawn 3, ticket of 0
 ";
@@ -114,25 +114,28 @@ pub(crate) const UNITS: &str = "\
 0 derive unit 1 = refused
 1 learn unit 1 = refused # another's turn
 0 learn unit 3 = refused # does not follow
+0 learn unit 1 by 1 2 = refused # the log has no hints
 0 learn unit 1 = done
 0 draw = done
 0 learn unit 1 = refused # learned before
 0 propagate unit 1 = done
-0 publish 2 = refused # neither given nor added
-1 publish 1 = refused # another's turn
+0 publish 2 as 5 = refused # another unit
+0 publish 1 as 4 = refused # no unit
+0 publish 1 as 7 = refused # no clause
+1 publish 1 as 5 = refused # another's turn
 0 empty = refused # does not follow
 0 stop 2 = refused # the log goes on
 1 see = refused # nothing is listed
-0 publish 1 = done
-0 publish 1 = refused # listed before
+0 publish 1 as 6 = done
+0 publish 1 as 5 = refused # listed before
 0 see = refused # has seen what it listed
 0 learn unit 2 = done # by the unit seen
 0 give-turn = done
 1 take-turn = done
-1 publish 2 = refused # has not seen the first
+1 publish 2 as 7 = refused # has not seen the first
 1 see = done
 1 see = refused
-1 publish 2 = done
+1 publish 2 as 7 = done
 1 learn 50 : 5 6 = done
 1 open 50 = done
 1 drop 50 = done
@@ -158,7 +161,7 @@ line 1 0
 line 2 0
 line 5 6 0
 line 0
-units 1 2, seen 1 2 0 0
+units 1 as 6, 2 as 7, seen 1 2 0 0
 turn of 1
 stop 2 by 1
 drawn 4, ticket of 1
@@ -207,7 +210,7 @@ leaves
 line 1 2 0
 line d 1 2 0
 line 1 2 0
-units, seen 0 0 0 0
+units seen 0 0 0 0
 turn of 0
 drawn 1
 ";
@@ -237,7 +240,7 @@ leaves
 25 : clause 2, count 3, held 1 by 1
 30 : clause 3, count 3, held 1 by 0, held 1 by 1
 slot of 0 for 2 class 3 place 1 : 25
-units, seen 0 0 0 0
+units seen 0 0 0 0
 ";
 
 /// One ticket for two rings: only what is learned asks for it, and a ring that found none left draws no more.
@@ -274,7 +277,7 @@ line 1 2 0
 line 2 3 0
 line 2 0
 line 2 -3 0
-units, seen 0 0 0 0
+units seen 0 0 0 0
 turn of 1
 drawn 3
 ";
@@ -288,7 +291,7 @@ leaves
 20 : clause 1, count 2
 25 : clause 2, count 2
 30 : clause 3, count 2
-units, seen 0 0 0 0
+units seen 0 0 0 0
 drawn 2, ticket of 0, ticket of 1
 ";
 
@@ -307,7 +310,7 @@ leaves
 30 : clause 3, count 2, held 1 by 0
 50 : clause 4, count 0
 line 1 2 0
-units, seen 0 0 0 0
+units seen 0 0 0 0
 turn of 0
 drawn 1
 ";

@@ -4,15 +4,18 @@
 mod literals;
 mod opener;
 
-pub use literals::{are_distinct, is_long, is_told};
+pub use literals::{are_distinct, is_long, names_unit};
 pub use opener::{
-    all_fit, all_told, core_over, next_over, opens, stand_apart, start_clauses, start_fits,
+    all_fit, all_named, core_over, lits_of, next_over, opens, stand_apart, start_clauses,
+    start_fits,
 };
 
 #[cfg(test)]
 mod events;
 #[cfg(test)]
 mod guards;
+#[cfg(test)]
+mod hinted;
 #[cfg(test)]
 mod openings;
 #[cfg(test)]

@@ -1,10 +1,8 @@
 //! What is asked of the literals of an opening.
-ghost use Rattle.std.specs.Prelude.{◌≡◌, ◌∷◌, [], ◌≤◌, length};
-ghost use Rattle.std.specs.List.{list_any, list_all};
-ghost use Rattle.sat_words.specs.Literal.{same};
-ghost use Rattle.sat_words.specs.Clause.{has, same_set, distinct_lits, has_opposites};
-ghost use Rattle.rup_model.specs.Journal.{is_told};
-ghost use Rattle.share_core.specs.Guards.{is_long};
+ghost use Rattle.std.specs.Prelude.{◌≡◌, Some};
+ghost use Rattle.sat_words.specs.Clause.{has, distinct_lits, has_opposites};
+ghost use Rattle.rup_model.specs.Journal.{formula_clause};
+ghost use Rattle.share_core.specs.Guards.{is_long, is_unit};
 
 use sat_words::{Clause, Lit};
 
@@ -37,28 +35,22 @@ pub fn is_long(lits: &[Lit]) -> bool
     lits.len() >= 2 && are_distinct(lits) && !has_both(lits)
 }
 
-fn are_all(lits: &[Lit], lit: Lit) -> bool
-    ensures { result ≡ list_all (λ k. same k lit) lits.now }
+fn is_only(lits: &[Lit], lit: Lit) -> bool
+    ensures { result ≡ is_unit lit (Some lits.now) }
 {
-    lits.iter().all(|k| *k == lit)
+    match lits {
+        [only] => lit == *only,
+        _ => false,
+    }
 }
 
-/// Whether the clause has this literal alone, however often.
-fn is_unit(lits: &[Lit], lit: Lit) -> bool
-    ensures { result ≡ same_set (lit ∷ []) lits.now }
+/// Whether the number is that of a clause with this literal alone.
+pub fn names_unit(clauses: &[Clause], number: u64, lit: Lit) -> bool
+    ensures { result ≡ is_unit lit (formula_clause clauses.now number) }
 {
-    contains(lits, lit) && are_all(lits, lit)
-}
-
-fn has_unit(clauses: &[Clause], lit: Lit) -> bool
-    ensures { result ≡ list_any (same_set (lit ∷ [])) clauses.now }
-{
-    clauses.iter().any(|clause| is_unit(clause.lits(), lit))
-}
-
-/// Whether the unit is one of the clauses.
-pub fn is_told(clauses: &[Clause], lit: Lit) -> bool
-    ensures { result ≡ is_told clauses.now [] lit }
-{
-    has_unit(clauses, lit)
+    if number == 0 || number > clauses.len() as u64 {
+        return false;
+    }
+    let index = (number - 1) as usize;
+    is_only(clauses[index].lits(), lit)
 }

@@ -2,17 +2,17 @@
 ghost use Rattle.std.specs.Prelude.{◌≡◌, ◌∷◌, [], List, ◌||◌, ◌==◌, map, IfOk};
 ghost use Rattle.std.specs.List.{list_any, list_all};
 ghost use Rattle.std.specs.Option.{unwrap_or};
-ghost use Rattle.rup_model.specs.Journal.{formula_clause, is_told};
+ghost use Rattle.rup_model.specs.Journal.{formula_clause};
 ghost use Rattle.share_core.specs.declared.stored.ClauseAt.{ClauseAt};
-ghost use Rattle.share_core.specs.State.{opened};
+ghost use Rattle.share_core.specs.State.{opened, unit_lits};
 ghost use Rattle.rup_model.specs.declared.journal.Entry.{Entry};
 ghost use Rattle.share_core.specs.Machine.{state_of, start_at, core_opening};
 ghost use Rattle.share_core.specs.NextRound.{IsNextRound, next_opening};
-ghost use Rattle.test_core.specs.Fitting.{start_fits, stand_apart, opens};
+ghost use Rattle.test_core.specs.Fitting.{start_fits, unit_fits, stand_apart, opens};
 
-use crate::literals::{are_distinct, is_long, is_told};
-use sat_words::{Clause, Formula, Line, Lit, Lits};
-use share_core::{ClauseAt, Core};
+use crate::literals::{are_distinct, is_long, names_unit};
+use sat_words::{Clause, Formula, Lit, Lits};
+use share_core::{ClauseAt, Core, RoundLine};
 use std::alloc::{AllocError, Global};
 use std::test::Fail;
 
@@ -51,22 +51,35 @@ pub fn stand_apart(starts: &[ClauseAt]) -> bool
     }
 }
 
-/// Whether each unit is one of the clauses.
-pub fn all_told(units: &[Lit], clauses: &[Clause]) -> bool
-    ensures { result ≡ list_all (is_told clauses.now []) units.now }
+/// Whether each unit has the number of a clause that is this unit.
+pub fn all_named(units: &[(Lit, u64)], clauses: &[Clause]) -> bool
+    ensures { result ≡ list_all (unit_fits clauses.now) units.now }
 {
-    units.iter().all(|lit| is_told(clauses, *lit))
+    units.iter().all(|unit| names_unit(clauses, unit.1, unit.0))
 }
 
-/// Whether a core may be opened with these.
+/// The literals of the units.
+pub fn lits_of(alloc: Global, units: &[(Lit, u64)]) -> Result<Vec<Lit>, AllocError>
+    ensures { IfOk result (λ lits. lits.items ≡ unit_lits units.now) }
+{
+    let mut lits = Vec::new(alloc);
+    for unit in units {
+        lits.push(unit.0)?;
+    }
+    Ok(lits)
+}
+
+/// Whether a core may be opened with these, of which the literals are those of the units.
 pub fn opens(
     clauses: &[Clause],
     starts: &[ClauseAt],
-    units: &[Lit],
+    units: &[(Lit, u64)],
+    lits: &[Lit],
     rings: u32,
     depth: u32,
     limit: u64,
 ) -> bool
+    requires { lits.now ≡ unit_lits units.now }
     ensures { result ≡ opens clauses.now starts.now units.now rings depth limit }
 {
     1 <= rings
@@ -76,8 +89,8 @@ pub fn opens(
         && limit <= 1 << 63
         && all_fit(starts, clauses)
         && stand_apart(starts)
-        && all_told(units, clauses)
-        && are_distinct(units)
+        && all_named(units, clauses)
+        && are_distinct(lits)
 }
 
 /// The literals of the formula's clause with this number, none if there is no such clause.
@@ -127,34 +140,37 @@ pub fn core_over(
     alloc: Global,
     formula: Formula,
     start: &[(u64, u64)],
-    units: &[Lit],
+    units: &[(Lit, u64)],
     rings: u32,
     depth: u32,
     limit: u64,
+    hinted: bool,
 ) -> Result<Core, Fail>
-    ensures { IfOk result (λ core. state_of core ≡ opened (core_opening formula.clauses start.now units.now rings depth limit)) }
+    ensures { IfOk result (λ core. state_of core ≡ opened (core_opening formula.clauses start.now units.now rings depth limit hinted)) }
 {
     let starts = start_clauses(alloc, formula.clauses(), start)?;
+    let lits = lits_of(alloc, units)?;
     if !opens(
         formula.clauses(),
         starts.as_slice(),
         units,
+        lits.as_slice(),
         rings,
         depth,
         limit,
     ) {
         return Err(Fail::from("no opening"));
     }
-    Ok(Core::new(alloc, formula, start, units, rings, depth, limit)?)
+    Ok(Core::new(alloc, formula, start, units, rings, depth, limit, hinted)?)
 }
 
 /// The core in its next round, if it may begin with these.
 pub fn next_over(
     alloc: Global,
     core: Core,
-    lines: &[Line],
+    lines: &[RoundLine],
     start: &[(u64, u64)],
-    units: &[Lit],
+    units: &[(Lit, u64)],
     limit: u64,
 ) -> Result<Core, Fail>
     ensures { (E : List Entry) → IsNextRound (state_of core) lines.now start.now units.now limit E → IfOk result (λ next. state_of next ≡ opened (next_opening (state_of core) E start.now units.now limit)) }

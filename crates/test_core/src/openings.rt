@@ -31,7 +31,17 @@ no cell : 1
 25 : -2 3 4
 no cell : 4 -4
 no cell : 5 5
-unit 1
+unit 1 as 1
+";
+
+/// The same clauses, in a log with hints.
+pub(crate) const HINTED: &str = "\
+2 variables
+hinted
+20 : 1 2
+25 : 1 -2
+30 : -1 2
+35 : -1 -2
 ";
 
 /// The empty clause, a unit and one more.
@@ -42,12 +52,13 @@ no cell :
 no cell : 1
 ";
 
-/// A formula; its start clauses by address and number, and the units that are listed.
+/// A formula; its start clauses by address and number, the units that are listed, and whether the log has hints.
 #[derive(Drop)]
 struct Opening {
     formula: Formula,
     start: Vec<(u64, u64)>,
-    units: Vec<Lit>,
+    units: Vec<(Lit, u64)>,
+    hinted: bool,
 }
 
 impl Opening {
@@ -58,11 +69,13 @@ impl Opening {
         Ok(())
     }
 
-    /// A clause with the address of its cell, or one that has none, or a unit that is listed.
+    /// A clause with the address of its cell, or one that has none, a unit that is listed as the clause with a number, or that
+    /// the log has hints.
     fn add(&mut self, alloc: Global, line: &'static str) -> Result<(), Fail> {
         let words = words(alloc, line)?;
         match words.as_slice() {
-            ["unit", n] => self.units.push(lit(*n)?)?,
+            ["hinted"] => self.hinted = true,
+            ["unit", n, "as", number] => self.units.push((lit(*n)?, number.parse()?))?,
             ["no", "cell", ":", ints @ ..] => self.push_clause(alloc, ints)?,
             [address, ":", ints @ ..] => {
                 self.push_clause(alloc, ints)?;
@@ -92,6 +105,7 @@ pub(crate) fn open(
         formula: Formula::new(alloc, vars.parse()?),
         start: Vec::new(alloc),
         units: Vec::new(alloc),
+        hinted: false,
     };
     for line in lines.lines() {
         opening.add(alloc, line)?;
@@ -100,6 +114,7 @@ pub(crate) fn open(
         formula,
         start,
         units,
+        hinted,
     } = opening;
     core_over(
         alloc,
@@ -109,5 +124,6 @@ pub(crate) fn open(
         rings,
         depth,
         limit,
+        hinted,
     )
 }

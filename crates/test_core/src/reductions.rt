@@ -2,7 +2,7 @@
 use crate::events::read;
 use crate::openings::{FOUR, open};
 use crate::tables::walk;
-use rup_model::Kind;
+use rup_model::{ClauseNumbers, Kind};
 use sat_words::Lit;
 use share_core::{Core, Event, Step};
 use std::alloc::Global;
@@ -13,7 +13,7 @@ pub(crate) const KNOWS_ALL: &str = "\
 0 grant = done
 0 take-turn = done
 0 propagate unit 1 = done
-0 publish 1 = done
+0 publish 1 as 5 = done
 ";
 
 /// One short: what is propagated does not count, and what is refused does not.
@@ -43,6 +43,7 @@ pub(crate) fn learn_units(alloc: Global, core: &mut Core) -> Result<Step, Fail> 
             ring: 0,
             kind: Kind::Learn,
             lit: Lit::new(var, false),
+            hints: ClauseNumbers::from_slice(alloc, &[])?,
         })?;
     }
     Ok(core.run(alloc, events.as_slice())?)

@@ -5,8 +5,8 @@ use crate::openings::{FOUR, THREE, open};
 use crate::reductions::{KNOWS_ALL, learn_units};
 use crate::seen::state;
 use crate::tables::walk;
-use sat_words::{Line, Lit};
-use share_core::{Core, Step};
+use sat_words::Lit;
+use share_core::{Core, RoundLine, Step};
 use std::alloc::Global;
 use std::process::Abort;
 use std::test::Fail;
@@ -34,8 +34,8 @@ const FIRST: &str = "\
 
 /// The first of the two copies goes on, and so the second is deleted, with the other clause.
 const NEXT: &str = "\
-delete 2 3
-delete 1 2
+delete 6 : 2 3
+delete 5 : 1 2
 20 : 1
 25 : 2
 30 : 3
@@ -75,16 +75,16 @@ line d 2 3 0
 line d 1 2 0
 line 2 1 0
 line d 2 3 0
-units, seen 0 0 0 0
+units seen 0 0 0 0
 drawn 2, ticket of 0
 ";
 
 /// Lines, start clauses and units, each on a line of its own.
 #[derive(Drop)]
 struct Beginning {
-    lines: Vec<Line>,
+    lines: Vec<RoundLine>,
     start: Vec<(u64, u64)>,
-    units: Vec<Lit>,
+    units: Vec<(Lit, u64)>,
 }
 
 impl Beginning {
@@ -92,8 +92,11 @@ impl Beginning {
     fn add(&mut self, alloc: Global, line: &'static str) -> Result<(), Fail> {
         let words = words(alloc, line)?;
         match words.as_slice() {
-            ["delete", ints @ ..] => self.lines.push(Line::Del(lits(alloc, ints)?))?,
-            ["unit", n] => self.units.push(lit(*n)?)?,
+            ["delete", number, ":", ints @ ..] => self.lines.push(RoundLine::Del {
+                number: number.parse()?,
+                lits: lits(alloc, ints)?,
+            })?,
+            ["unit", n, "as", number] => self.units.push((lit(*n)?, number.parse()?))?,
             [address, ":", number] => self.start.push((address.parse()?, number.parse()?))?,
             _ => return Err(Fail::from("no line of a round")),
         }
@@ -150,7 +153,7 @@ const GO_ON: &str = "\
 25 : 2
 30 : 3
 35 : 4
-unit 1
+unit 1 as 5
 ";
 
 /// What was learned in the round before does not count, and may be learned again.

@@ -36,7 +36,7 @@ line 1 2 0
 line 1 2 0
 line d 1 2 0
 line 2 0
-units, seen 0 0 0 0
+units seen 0 0 0 0
 drawn 3
 ";
 
@@ -73,7 +73,7 @@ leaves
 line 1 2 0
 line 2 3 0
 line d 1 2 0
-units, seen 0 0 0 0
+units seen 0 0 0 0
 drawn 2
 ";
 
@@ -94,7 +94,7 @@ leaves
 25 : clause 2, count 2, held 2 by 1
 30 : clause 3, count 2, held 1 by 1
 slot of 0 for 1 class 0 place 1 : 30
-units, seen 0 0 0 0
+units seen 0 0 0 0
 ";
 
 /// A unit of the formula is listed from the start. Rings see it before they know what follows from it, and it is not
@@ -103,16 +103,16 @@ pub(crate) const OPENING_UNITS: &str = "\
 0 grant = done
 0 take-turn = done
 0 propagate unit 2 = refused # has not seen the first unit
-0 publish 5 = refused
+0 publish 5 as 4 = refused
 0 see = done
 0 see = refused # has seen all
 0 propagate unit 2 = done
-0 publish 1 = refused # listed from the start
-0 publish 2 = done
+0 publish 1 as 1 = refused # listed from the start
+0 publish 2 as 6 = done
 0 draw = done
 0 learn 50 : 4 3 = done
 0 propagate unit 5 = refused # in no clause that is held
-0 publish 5 = done # a clause of the formula
+0 publish 5 as 5 = done # a clause of the formula
 0 propagate unit 5 = done
 0 give-turn = done
 1 see = done
@@ -123,7 +123,7 @@ leaves
 line 2 0
 line 4 3 0
 line 5 0
-units 1 2 5, seen 3 1 0 0
+units 1 as 1, 2 as 6, 5 as 5, seen 3 1 0 0
 drawn 1
 ";
 
@@ -138,11 +138,11 @@ pub(crate) const ENDED_BEFORE: &str = "\
 0 drop 20 = done
 1 drop 20 = done
 1 bury 20 = refused
-0 publish 1 = done # a clause of the formula
+0 publish 1 as 3 = done # a clause of the formula
 0 stop 1 = done # the first stays
 leaves
 20 : clause 2, count 0, waits at 1
-units 1, seen 1 0 0 0
+units 1 as 3, seen 1 0 0 0
 turn of 0
 stop 2 by 1
 ";

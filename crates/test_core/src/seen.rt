@@ -64,13 +64,13 @@ fn write_line(text: &mut String, line: &Line) -> Result<(), Fail> {
     Ok(())
 }
 
-/// The listed units, and how many of them each ring has seen.
+/// The listed units with their numbers, and how many of them each ring has seen.
 fn write_units(text: &mut String, core: &Core) -> Result<(), Fail> {
     text.push_str("units")?;
-    for lit in core.units() {
-        write!(text, " {lit}")?;
+    for (lit, number) in core.units().iter().zip(core.unit_numbers()) {
+        write!(text, " {lit} as {number},")?;
     }
-    text.push_str(", seen")?;
+    text.push_str(" seen")?;
     for ring in 0..RINGS {
         let seen = core.seen(ring);
         write!(text, " {seen}")?;

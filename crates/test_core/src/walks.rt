@@ -2,7 +2,7 @@
 ghost use Rattle.std.specs.Prelude.{◌<◌};
 
 use crate::openings::{FOUR, THREE, open};
-use rup_model::Kind;
+use rup_model::{ClauseNumbers, Kind};
 use sat_words::{Lit, Lits};
 use share_core::{Core, Event, Step};
 use std::alloc::Global;
@@ -19,6 +19,10 @@ const LIMIT: u64 = 20;
 
 /// How many events a walk tries.
 const EVENTS: u32 = 700;
+
+fn no_hints(alloc: Global) -> Result<ClauseNumbers, Fail> {
+    Ok(ClauseNumbers::from_slice(alloc, &[])?)
+}
 
 /// Knuth's linear congruential generator of MMIX, of which the high bits are taken.
 #[derive(Drop)]
@@ -86,18 +90,24 @@ impl Words {
                 ring,
                 kind: self.kind(),
                 lits: self.lits(alloc)?,
+                hints: no_hints(alloc)?,
                 address,
             },
             8 | 9 => Event::AddUnit {
                 ring,
                 kind: self.kind(),
                 lit: self.lit(),
+                hints: no_hints(alloc)?,
             },
             10 | 11 => Event::Publish {
                 ring,
                 lit: self.lit(),
+                number: self.below(20) as u64,
             },
-            12 => Event::AddEmpty { ring },
+            12 => Event::AddEmpty {
+                ring,
+                hints: no_hints(alloc)?,
+            },
             13 => Event::Reduce { ring },
             14 | 15 => Event::Draw { ring },
             _ => Event::Bury { ring, address },

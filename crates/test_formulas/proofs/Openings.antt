@@ -8,6 +8,7 @@ use Rattle.std.specs.declared.cmp.Ordering.TheVariants.{Less}
 use Rattle.std.specs.Option.{option_map}
 use Rattle.std.proofs.lemmas.Bool.{and_parts, and_from, cases_Bool, false≢true}
 use Rattle.std.proofs.lemmas.List.Elements.{All-from_recursion, All-append, All-cons, All-nil}
+use Rattle.std.proofs.lemmas.List.{map-append}
 use Rattle.std.proofs.lemmas.List.Folds.{list_any-append}
 use Rattle.std.proofs.lemmas.Option.{slice_get_within}
 use Rattle.sat_words.specs.Literal.{Literal, IsOn}
@@ -37,7 +38,7 @@ fine_from vars c order long opposites all = record {
 }
 
 -- no clause
-pub none_yet : (vars : ℕ) → IsProblem (record { vars = vars; clauses = [] }) [] []
+pub none_yet : (vars : ℕ) → IsProblem (record { vars = vars; clauses = [] }) [] [] []
 unfolding IsDistinct IsStrictlySortedBy
 none_yet vars = record {
   opens = record {
@@ -51,6 +52,8 @@ none_yet vars = record {
   going = refl;
   starts_on = All-nil (λ (s : ℕ × List Literal). All (IsOn vars) s.1);
   units_on = All-nil (IsOn vars);
+  listed = refl;
+  numbered = All-nil (λ (u : Literal × ℕ). formula_clause [] u.1 ≡ Some (u.0 ∷ []));
 }
 
 -- Numbers
@@ -162,8 +165,8 @@ distinct_units (k ∷ us) l d none =
 -- One more
 
 -- with one more clause that a search may start with
-pub with_clause : (f : FormulaData) (ss : List (ℕ × List Literal)) (us : List Literal) (c : List Literal) → IsProblem f ss us → IsFine f.vars c → IsProblem (record f { clauses = f.clauses ++ c ∷ [] }) (ss ++ (length f.clauses + 1, c) ∷ []) us
-with_clause f ss us c p fine =
+pub with_clause : (f : FormulaData) (ss : List (ℕ × List Literal)) (us : List Literal) (ns : List (Literal × ℕ)) (c : List Literal) → IsProblem f ss us ns → IsFine f.vars c → IsProblem (record f { clauses = f.clauses ++ c ∷ [] }) (ss ++ (length f.clauses + 1, c) ∷ []) us ns
+with_clause f ss us ns c p fine =
     let F = f.clauses in
     let G = F ++ c ∷ [] in
     let new : IsStart (formula_book G) (record { number = length F + 1; lits = c }) = record {
@@ -182,6 +185,8 @@ with_clause f ss us c p fine =
       going = none_empty F c p.going (some c fine.shape.long);
       starts_on = All-append (λ (s : ℕ × List Literal). All (IsOn f.vars) s.1) ss ((length F + 1, c) ∷ []) p.starts_on (All-cons (λ (s : ℕ × List Literal). All (IsOn f.vars) s.1) (length F + 1, c) [] fine.on (All-nil (λ (s : ℕ × List Literal). All (IsOn f.vars) s.1)));
       units_on = p.units_on;
+      listed = p.listed;
+      numbered = λ i u lt. kept_clause F c _ _ (p.numbered i u lt);
     }
   where
     some : (d : List Literal) → 2 ≤ length d → is_empty d ≡ false
@@ -189,9 +194,12 @@ with_clause f ss us c p fine =
     some (k ∷ d) h = refl
 
 -- with one more unit
-pub with_one : (f : FormulaData) (ss : List (ℕ × List Literal)) (us : List Literal) (l : Literal) → IsProblem f ss us → IsOn f.vars l → has us l ≡ false → IsProblem (record f { clauses = f.clauses ++ (l ∷ []) ∷ [] }) ss (us ++ l ∷ [])
-with_one f ss us l p on none =
+pub with_one : (f : FormulaData) (ss : List (ℕ × List Literal)) (us : List Literal) (ns : List (Literal × ℕ)) (l : Literal) → IsProblem f ss us ns → IsOn f.vars l → has us l ≡ false → IsProblem (record f { clauses = f.clauses ++ (l ∷ []) ∷ [] }) ss (us ++ l ∷ []) (ns ++ (l, length f.clauses + 1) ∷ [])
+with_one f ss us ns l p on none =
     let F = f.clauses in
+    let G = F ++ (l ∷ []) ∷ [] in
+    let P : Literal × ℕ → Type 0 = λ u. formula_clause G u.1 ≡ Some (u.0 ∷ []) in
+    let last : P (l, length F + 1) = (let e : length F + 1 ≡ suc (length F) = omega arith in ap (formula_clause G) e) ∙ ap (option_map clause_of) (at_end F (l ∷ [])) in
     record {
       opens = record {
         rulers_part = record { rulers = All-nil (λ (e : Entry). is_rulers e ≡ true); going = refl; fits = tt; accepted = tt };
@@ -204,4 +212,6 @@ with_one f ss us l p on none =
       going = none_empty F (l ∷ []) p.going refl;
       starts_on = p.starts_on;
       units_on = All-append (IsOn f.vars) us (l ∷ []) p.units_on (All-cons (IsOn f.vars) l [] on (All-nil (IsOn f.vars)));
+      listed = map-append (λ (u : Literal × ℕ). u.0) ns ((l, length F + 1) ∷ []) ∙ ap (λ (ls : List Literal). ls ++ l ∷ []) p.listed;
+      numbered = All-append P ns ((l, length F + 1) ∷ []) (λ i u lt. kept_clause F (l ∷ []) _ _ (p.numbered i u lt)) (All-cons P (l, length F + 1) [] last (All-nil P));
     }

@@ -20,7 +20,9 @@ pub struct Problem {
     pub start: Vec<(u64, Clause)>,
     /// The literals of the others.
     pub units: Vec<Lit>,
-    pub ghost ready: { IsProblem formula start.items units.items } by { Prim.hlevel props },
+    /// The same literals, each with the number of its clause.
+    pub listed: Vec<(Lit, u64)>,
+    pub ghost ready: { IsProblem formula start.items units.items listed.items } by { Prim.hlevel props },
 }
 
 /// Whether the literal is among them.
@@ -58,16 +60,24 @@ fn is_fine(clause: &Clause, vars: u32) -> bool
     are_on(lits, vars)
 }
 
+/// The number of the clause that comes next.
+fn next_number(formula: &Formula) -> u64
+    ensures { result ≡ length formula.now.clauses + 1 }
+{
+    formula.clauses().len() as u64 + 1
+}
+
 impl Problem {
     /// No clause, over this many variables.
     pub fn new(alloc: Global, vars: u32) -> Problem
         ensures formula { result.formula ≡ record { vars = vars; clauses = [] } }
-        ensures none { (result.start.items ≡ []) × (result.units.items ≡ []) }
+        ensures none { (result.start.items ≡ []) × (result.units.items ≡ []) × (result.listed.items ≡ []) }
     {
         Problem {
             formula: Formula::new(alloc, vars),
             start: Vec::new(alloc),
             units: Vec::new(alloc),
+            listed: Vec::new(alloc),
         }
     }
 
@@ -75,18 +85,19 @@ impl Problem {
     pub fn with(self, alloc: Global, lits: &[Lit]) -> Result<Problem, Fail>
         ensures formula { IfOk result (λ p. p.formula ≡ record self.formula { clauses = self.formula.clauses ++ clause_of lits.now ∷ [] }) }
         ensures start { IfOk result (λ p. p.start.items ≡ self.start.items ++ (length self.formula.clauses + 1, clause_of lits.now) ∷ []) }
-        ensures units { IfOk result (λ p. p.units.items ≡ self.units.items) }
+        ensures units { IfOk result (λ p. (p.units.items ≡ self.units.items) × (p.listed.items ≡ self.listed.items)) }
     {
         let Problem {
             mut formula,
             mut start,
             units,
+            listed,
         } = self;
         let clause = Clause::from_lits(alloc, lits)?;
         if !is_fine(&clause, formula.vars()) {
             return Err(Fail::from("no start clause"));
         }
-        let number = formula.clauses().len() as u64 + 1;
+        let number = next_number(&formula);
         let copy = Clause::from_lits(alloc, lits)?;
         start.push((number, copy))?;
         formula.push(clause)?;
@@ -94,6 +105,7 @@ impl Problem {
             formula,
             start,
             units,
+            listed,
         })
     }
 
@@ -102,21 +114,26 @@ impl Problem {
         ensures formula { IfOk result (λ p. p.formula ≡ record self.formula { clauses = self.formula.clauses ++ (lit ∷ []) ∷ [] }) }
         ensures start { IfOk result (λ p. p.start.items ≡ self.start.items) }
         ensures units { IfOk result (λ p. p.units.items ≡ self.units.items ++ lit ∷ []) }
+        ensures listed { IfOk result (λ p. p.listed.items ≡ self.listed.items ++ (lit, length self.formula.clauses + 1) ∷ []) }
     {
         let Problem {
             mut formula,
             start,
             mut units,
+            mut listed,
         } = self;
         if lit.var() > formula.vars() || is_among(units.as_slice(), lit) {
             return Err(Fail::from("no unit, or one that is there"));
         }
+        let number = next_number(&formula);
         formula.push(Clause::from_lits(alloc, &[lit])?)?;
         units.push(lit)?;
+        listed.push((lit, number))?;
         Ok(Problem {
             formula,
             start,
             units,
+            listed,
         })
     }
 }

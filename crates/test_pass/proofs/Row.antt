@@ -1,5 +1,5 @@
 -- What the rings of the tests know.
-use Rattle.std.proofs.Common.{◌≡◌, ◌≤◌, ◌≢◌, ◌∙◌, ◌==◌, ℕ, ◌||◌, Bool, not, filter, true, false, true≢false, List, [], ◌∷◌, map, All, Contains, length, refl, sym, ap, subst, arith, Some, IsSome, Option}
+use Rattle.std.proofs.Common.{◌≡◌, ◌≤◌, ◌≢◌, ◌∙◌, ◌==◌, ℕ, ◌||◌, Bool, not, filter, true, false, true≢false, List, [], ◌∷◌, ◌++◌, map, All, Contains, length, refl, sym, ap, subst, arith, Some, IsSome, Option}
 use Rattle.std.specs.Prelude.{slice_get}
 use Rattle.std.specs.List.{range_with_len}
 use Rattle.std.specs.Option.{unwrap_or}
@@ -13,9 +13,11 @@ use Rattle.atomic_table.specs.declared.shared.Seat.{Seat}
 use Rattle.share_core.specs.declared.stored.ClauseAt.{ClauseAt}
 use Rattle.share_rule.specs.declared.Layout.{Layout}
 use Rattle.share_rule.specs.declared.Shared.{Shared}
+use Rattle.share_rule.specs.declared.view.RingPart.{RingPart}
 use Rattle.share_rule.specs.declared.view.View.{View}
 use Rattle.share_rule.specs.FirstWords.{starts_at, addresses}
 use Rattle.share_rule.specs.Passes.{NoTurns}
+use Rattle.share_rule.specs.Rests.{NoneBuild}
 use Rattle.share_rule.specs.Views.{start_glues}
 use Rattle.test_tables.specs.Samples.{IsFirst, IsGathered}
 use Rattle.ring_port.specs.PortState.{Holding, PortState, HoldsStart, held_at, lits_at, lits_in, known}
@@ -92,6 +94,7 @@ player_left old new a d f one two three lacks_it k there h = record {
   rings = ap (λ (s : PortState). s.rings) k.state ∙ h.rings;
   depth = subst (λ (n : ℕ). 1 ≤ n) (sym (ap (λ (s : PortState). s.depth) k.state)) h.depth;
   usable = ap (λ (s : PortState). is_usable s.refused) k.state ∙ h.usable;
+  plain = ap (λ (s : PortState). s.hinted) k.state ∙ h.plain;
   one = (h.one.0, at_left old new a h.one.0 first d f one lacks_it k there h.one.1);
   two = (h.two.0, at_left old new a h.two.0 second d f two lacks_it k there h.two.1);
   three = (h.three.0, at_left old new a h.three.0 third d f three lacks_it k there h.three.1);
@@ -143,6 +146,7 @@ player_tidied s t n k h =
       rings = ap (λ (x : PortState). x.rings) k.state ∙ h.rings;
       depth = subst (λ (n : ℕ). 1 ≤ n) (sym (ap (λ (x : PortState). x.depth) k.state)) h.depth;
       usable = ap (λ (x : PortState). is_usable x.refused) k.state ∙ h.usable;
+      plain = ap (λ (x : PortState). x.hinted) k.state ∙ h.plain;
       one = (h.one.0, at_same s t h.one.0 first same h.one.1);
       two = (h.two.0, at_same s t h.two.0 second same h.two.1);
       three = (h.three.0, at_same s t h.three.0 third same h.three.1);
@@ -158,6 +162,7 @@ player_drew s t k h =
       rings = ap (λ (x : PortState). x.rings) k.state ∙ h.rings;
       depth = subst (λ (n : ℕ). 1 ≤ n) (sym (ap (λ (x : PortState). x.depth) k.state)) h.depth;
       usable = ap (λ (x : PortState). is_usable x.refused) k.state ∙ h.usable;
+      plain = ap (λ (x : PortState). x.hinted) k.state ∙ h.plain;
       one = (h.one.0, at_same s t h.one.0 first same h.one.1);
       two = (h.two.0, at_same s t h.two.0 second same h.two.1);
       three = (h.three.0, at_same s t h.three.0 third same h.three.1);
@@ -227,6 +232,7 @@ module _ {B : Type 0} (t : Shared B) (s : PortState) (v : View) (r : ℕ) (home 
       rings = ap (λ (x : PortState). x.rings) is ∙ four_is.rings;
       depth = subst (λ (n : ℕ). 1 ≤ n) (sym depth_is) four_is.depth;
       usable = ap (λ (x : PortState). is_usable x.refused) is;
+      plain = ap (λ (x : PortState). x.hinted) is ∙ four_is.plain;
       one = (_, at_start s _ (held 0 none (omega arith)));
       two = (_, at_start s _ (held 1 none (omega arith)));
       three = (_, at_start s _ (held 2 none (omega arith)));
@@ -247,6 +253,14 @@ module _ {B : Type 0} (t : Shared B) (s : PortState) (v : View) (r : ℕ) (home 
 
 pub home_left : {B : Type 0} (t : Shared B) (s m u : PortState) → IsHome t s → Stays s m → Stays m u → IsHome t u
 home_left t s m u h a b = λ p pass. b.home ∙ a.home ∙ h p pass
+
+-- one more ring that builds no cell
+pub none_more : (qs ps : List RingPart) (p : RingPart) → ps ≡ qs ++ p ∷ [] → p.core.making ≡ [] → NoneBuild qs → NoneBuild ps
+none_more qs ps p is none h = subst NoneBuild (sym is) (by qs h)
+  where
+    by : (rs : List RingPart) → NoneBuild rs → NoneBuild (rs ++ p ∷ [])
+    by [] k = (none, tt)
+    by (r ∷ rs) k = (k.0, by rs k.1)
 
 -- if both rings have begun, none is left to begin
 pub all_begun : {B : Type 0} (t : Shared B) (p : Seat (Option B) View) → IsFirst t p 2 → p.me.0.opening.rings ≡ 2 → p.me.0.parts ≡ [] → IsGathered t p 2

@@ -54,12 +54,14 @@ pub record IsAt (s : PortState) (a : ℕ) (c : List Literal) : Type 0 where
   pub held : IsSome (held_at s a)
   pub lits : lits_at s a ≡ c
 
--- one of two rings on three variables, with slots for each class, which holds the first three clauses and whose lines have not failed
+-- one of two rings on three variables, with slots for each class, which holds the first three clauses and whose lines have not failed;
+-- the log has no hints
 pub record IsPlayer (s : PortState) : Type 0 where
   pub vars : s.vars ≡ 3
   pub rings : s.rings ≡ 2
   pub depth : 1 ≤ s.depth
   pub usable : is_usable s.refused ≡ true
+  pub plain : s.hinted ≡ false
   pub one : (a : ℕ) × IsAt s a first
   pub two : (a : ℕ) × IsAt s a second
   pub three : (a : ℕ) × IsAt s a third
@@ -130,13 +132,14 @@ pub record IsListener (s : PortState) (ts : List ℕ) : Type 0 where
   pub ring : s.ring ≡ 1
   pub taken : s.taken ≡ ts
 
--- a table for two rings that begins with the four clauses, at these addresses
+-- a table for two rings that begins with the four clauses, at these addresses, in a log without hints
 pub record BeginsWithFour {B : Type 0} (t : Shared B) (o : CoreOpening) (cs : List Cref) : Type 0 where
   pub from : ℕ
   pub starts : o.starts ≡ starts_at from four
   pub rings : o.rings ≡ 2
   pub depth : 1 ≤ o.depth
   pub vars : t.layout.vars ≡ 3
+  pub plain : o.hinted ≡ false
   pub cells : cs ≡ addresses o.starts
 
 -- its pass is one of this table

@@ -6,6 +6,7 @@ ghost use Rattle.log_book.specs.Books.{account_of, origin_of, IsLogOf, IsNew};
 ghost use Rattle.share_rule.specs.declared.Layout.{Layout};
 ghost use Rattle.share_rule.specs.Books.{HasLog};
 ghost use Rattle.share_rule.specs.FirstWords.{begun_with};
+ghost use Rattle.share_rule.specs.Rests.{NoneBuild};
 ghost use Rattle.share_rule.specs.Steps.{new_part};
 ghost use Rattle.test_tables.specs.Samples.{IsFirst, IsRing, IsGathered};
 ghost use Rattle.test_pass.specs.Samples.{first, second, third, four, spare, IsAt, IsBegun, BeginsWithFour, IsHome};
@@ -27,7 +28,7 @@ pub fn make_four(alloc: Global) -> Result<Problem, Fail>
     ensures start { IfOk result (λ p. p.start.items ≡ four) }
     ensures vars { IfOk result (λ p. p.formula.vars ≡ 3) }
     ensures clauses { IfOk result (λ p. p.formula.clauses ≡ first ∷ second ∷ third ∷ spare ∷ []) }
-    ensures units { IfOk result (λ p. p.units.items ≡ []) }
+    ensures units { IfOk result (λ p. p.listed.items ≡ []) }
 {
     let one = Lit::new(1, false);
     let two = Lit::new(2, false);
@@ -72,7 +73,7 @@ pub fn open_four<S: Sink + Drop>(alloc: Global, depth: u32, sink: S) -> Result<O
     ensures first { IfOk result (λ m. IsFirst m.0 m.1 0) }
     ensures parts { IfOk result (λ m. m.1.me.0.parts ≡ []) }
     ensures layout { IfOk result (λ m. m.0.layout ≡ record { rings = 2; vars = 3; words = 64; depth = depth; conflicts = 4 }) }
-    ensures opening { IfOk result (λ m. m.1.me.0.opening ≡ begun_with (first ∷ second ∷ third ∷ spare ∷ []) m.0.layout [] four []) }
+    ensures opening { IfOk result (λ m. m.1.me.0.opening ≡ begun_with (first ∷ second ∷ third ∷ spare ∷ []) m.0.layout false [] four []) }
     ensures four { IfOk result (λ m. BeginsWithFour m.0 m.1.me.0.opening m.2.items) }
 {
     let problem = make_four(alloc)?;
@@ -109,7 +110,7 @@ pub fn port_of<'a, S: Sink, G: Gate, H: Wait>(
     ensures home { IfOk result (λ p. IsHome table.now p) }
 {
     let Ring { pass, ring, .. } = ring;
-    match RingPass::new(alloc, table, gate, rt, pass, ring, start) {
+    match RingPass::new(alloc, table, gate, rt, pass, ring, false, start) {
         Ok(port) => Ok(port),
         Err(_) => Err("no memory".into()),
     }
@@ -151,7 +152,8 @@ pub fn join_ring<S: Sink, G: Gate, H: Wait>(
     requires first { IsGathered table.now first.old (ring + 1) }
     requires ring { port.ring ≡ ring }
     requires home { IsHome table.now port }
-    ensures { IsGathered table.now first.new ring }
+    ensures gathered { IsGathered table.now first.new ring }
+    ensures built { NoneBuild first.old.me.0.parts → NoneBuild first.new.me.0.parts }
 {
     let pass = port.into_pass(table, first);
     let ring = Ring {

@@ -72,7 +72,7 @@ pub fn learn_pair<P: Port>(port: &mut P) -> Result<Cref, Miss>
     ensures same { OnOk result (Keeps (P.state port.old) (P.state port.new)) }
 {
     let lits = [Lit::new(1, false), Lit::new(2, false)];
-    match port.learn(&lits, 1) {
+    match port.learn(&lits, 1, &[]) {
         Ok(Some(c)) => Ok(c),
         _ => Err(Miss::NotLearned),
     }
@@ -84,7 +84,7 @@ pub fn learn_two<P: Port>(port: &mut P) -> Result<(), Miss>
     ensures learned { OnOk result (WroteUnit (P.state port.old) (P.state port.new) (plus 2) Learn None) }
     ensures same { OnOk result (Stays (P.state port.old) (P.state port.new)) }
 {
-    match port.learn(&[Lit::new(2, false)], 1) {
+    match port.learn(&[Lit::new(2, false)], 1, &[]) {
         Ok(None) => Ok(()),
         _ => Err(Miss::NotLearned),
     }
@@ -100,7 +100,7 @@ pub fn learn_later<P: Port>(port: &mut P) -> Result<Cref, Miss>
     ensures same { OnOk result (Keeps (P.state port.old) (P.state port.new)) }
 {
     let lits = [Lit::new(2, false), Lit::new(3, true)];
-    match port.learn(&lits, 1) {
+    match port.learn(&lits, 1, &[]) {
         Ok(Some(c)) => Ok(c),
         _ => Err(Miss::NotLearned),
     }
@@ -186,7 +186,7 @@ pub fn write_two<P: Port>(port: &mut P) -> Result<(), Miss>
     ensures written { OnOk result (WroteUnit (P.state port.old) (P.state port.new) (plus 2) UnitLine (P.state port.old).last) }
     ensures same { OnOk result (Stays (P.state port.old) (P.state port.new)) }
 {
-    match port.unit(Lit::new(2, false)) {
+    match port.unit(Lit::new(2, false), &[]) {
         Ok(()) => Ok(()),
         Err(_) => Err(Miss::NotWritten),
     }

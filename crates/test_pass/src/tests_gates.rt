@@ -18,6 +18,7 @@ use std::sync::Wait;
 use std::sync::atomic::{AtomicU64, Ordering};
 use std::test::Fail;
 use std::thread::{Threads, join};
+use test_tables::word_at;
 
 /// How many looks are made at what is waited for.
 const TURNS: u32 = 10_000_000;
@@ -114,6 +115,8 @@ struct Moment {
     slot: u64,
     /// The count of the cell of the pair that ring 0 learned.
     pair: u64,
+    /// The number of the first listed unit.
+    number: u64,
 }
 
 // The places of these words in a table for two rings and three variables that begins with the four clauses.
@@ -125,14 +128,7 @@ const SLOT: usize = 15;
 
 const PAIR: usize = 45;
 
-/// The word at a place; none if the table is too short.
-fn word_at<B: Ledger>(table: &Shared<B>, place: usize) -> Option<u64> {
-    if place < table.table.word_count() {
-        Some(table.table.shared.peek(place))
-    } else {
-        None
-    }
-}
+const NUMBER: usize = 92;
 
 /// What is found now; nothing if the table is too short.
 fn look<B: Ledger>(table: &Shared<B>, gate: &Holding) -> Option<Moment> {
@@ -142,6 +138,7 @@ fn look<B: Ledger>(table: &Shared<B>, gate: &Holding) -> Option<Moment> {
         units: word_at(table, UNITS)?,
         slot: word_at(table, SLOT)?,
         pair: word_at(table, PAIR)?,
+        number: word_at(table, NUMBER)?,
     })
 }
 
@@ -351,6 +348,7 @@ fn held_after_a_lemma(rt: HostRuntime) -> Result<(), Fail> {
         units: 0,
         slot: 0,
         pair: 1,
+        number: 0,
     };
     hold(&rt, Case::Lemma, wanted, b"1 2 0\n1 2 0\n2 0\n")
 }
@@ -364,6 +362,7 @@ fn held_after_a_unit(rt: HostRuntime) -> Result<(), Fail> {
         units: 1,
         slot: 0,
         pair: 0,
+        number: 5,
     };
     hold(&rt, Case::Unit, wanted, b"2 0\n")
 }
@@ -377,6 +376,7 @@ fn held_after_a_put(rt: HostRuntime) -> Result<(), Fail> {
         units: 0,
         slot: 45,
         pair: 2,
+        number: 0,
     };
     hold(&rt, Case::Offer, wanted, b"1 2 0\n")
 }
@@ -391,6 +391,7 @@ fn held_before_a_deletion(rt: HostRuntime) -> Result<(), Fail> {
         units: 0,
         slot: 0,
         pair: 0,
+        number: 0,
     };
     hold(&rt, Case::Deletion, wanted, b"1 2 0\n1 2 0\n2 0\nd 1 2 0\n")
 }
@@ -404,6 +405,7 @@ fn held_after_a_return(rt: HostRuntime) -> Result<(), Fail> {
         units: 0,
         slot: 49,
         pair: 0,
+        number: 0,
     };
     let lines = b"1 2 0\n2 -3 0\n1 2 0\n2 0\nd 1 2 0\n";
     hold(&rt, Case::Return, wanted, lines)

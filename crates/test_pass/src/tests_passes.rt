@@ -4,7 +4,7 @@ use crate::rows::{give_up_and_tell, hand_over, offer_both, take_both};
 use io_edge::MemSink;
 use ring_port::{Gate, Point};
 use sat_words::{Head, Lit};
-use share_rule::close;
+use share_rule::{close, close_round};
 use std::process::Abort;
 use std::sync::atomic::{AtomicU64, Ordering};
 use std::test::Fail;
@@ -49,7 +49,8 @@ impl Gate for Counts {
 
 /// By hand on one thread: ring 0 learns a clause, offers it and gives it up, and offers a second one, with which the first comes
 /// back as the last that is held. Ring 1 takes the second, and ring 0 gives it up. Both give a start clause up, which ring 1 as
-/// the last deletes. Then ring 0 writes a unit, which ring 1 is given.
+/// the last deletes. Then ring 0 writes a unit, which ring 1 is given. Its line is the third that adds a clause to four, so that the
+/// table tells the unit with the number 7.
 #[test]
 fn two_rings_share_and_tell(rt: HostRuntime) -> Result<(), Fail> {
     let alloc = rt.alloc();
@@ -73,7 +74,9 @@ fn two_rings_share_and_tell(rt: HostRuntime) -> Result<(), Fail> {
     assert!(rt; heard.lits == (Lit::new(2, false), Lit::new(3, true)));
     assert!(rt; [unit, none] == [Some(Lit::new(2, false)), None]);
     assert!(rt; gate.all() == [2, 2, 2]);
-    let (end, sink, lines) = close(table, first).finish();
+    let closed = close_round(alloc, table, first)?;
+    assert!(rt; closed.units.as_slice() == [(Lit::new(2, false), 7)].as_slice());
+    let (end, sink, lines) = closed.book.finish();
     assert!(rt; end == Ok(()));
     assert!(rt; sink.bytes() == b"1 2 0\n2 -3 0\nd 1 2 0\nd 2 3 0\n2 0\n".as_slice());
     assert!(rt; lines.map(|lines| lines.len()) == Some(5));

@@ -5,7 +5,7 @@ use Rattle.std.specs.declared.option.Option.{Option}
 use Rattle.std.proofs.Math.Seq.{take-length}
 use Rattle.std.proofs.lemmas.List.{take_more, take-append-drop, get_or-map, length-map, take-map, map-append}
 use Rattle.std.proofs.lemmas.List.Elements.{All-take, All-cons, All-nil}
-use Rattle.std.proofs.lemmas.Bool.{eq-eqb}
+use Rattle.std.proofs.lemmas.Bool.{eq-eqb, false≢true}
 use Rattle.sat_words.specs.declared.shared.Cref.{Cref}
 use Rattle.sat_words.specs.declared.shared.Stop.{Stop}
 use Rattle.rup_model.proofs.Lists.{In, In_append_left, In_append_right, In_Contains, Contains_In, In_get_or}
@@ -107,6 +107,7 @@ crowd_begins s limit fits p = record {
   ring = omega arith;
   deep = omega arith;
   few = fits;
+  named = λ hinted. absurd (false≢true hinted);
 }
 
 -- What stays if nothing is taken
@@ -128,6 +129,7 @@ crowd_goes_on s taken stop other looks more refused told polled polled_more same
   ring = p.ring;
   deep = p.deep;
   few = subst (λ (n : ℕ). n < 2 ^ 64) (sym same) p.few;
+  named = λ hinted. absurd (false≢true hinted);
 }
 
 -- Polls
@@ -173,6 +175,7 @@ module _ (s : PortState) (c : Cref) (last : IsLast s c.address) (port : IsPort s
     ring = old.ring;
     deep = old.deep;
     few = subst (λ (k : ℕ). k < 2 ^ 64) (sym same) old.few;
+    named = λ hinted. absurd (false≢true hinted);
   }
 
   pub keeps_held : (n : Asked) → KeepsHeld (crowd_of s None stop looks refused polled) (crowd_of s (Some c) stop looks refused n)

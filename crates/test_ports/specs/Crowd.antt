@@ -53,6 +53,7 @@ crowd_of s taken stop looks refused q = record {
   held = held_of s.held taken;
   waiting = [];
   seen = [];
+  told = [];
   given = [];
   coming = 0;
   kept = 0;
@@ -78,6 +79,7 @@ crowd_of s taken stop looks refused q = record {
   looks = looks;
   refused = refused;
   ended = false;
+  hinted = false;
   output = None;
   home = [];
 }

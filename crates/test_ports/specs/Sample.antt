@@ -24,12 +24,13 @@ second = record { address = 2; number = 2; glue = 0; lits = lit 4 true ∷ lit 1
 abbrev pub third : Holding
 third = record { address = 3; number = 3; glue = 0; lits = lit 4 true ∷ lit 2 true ∷ lit 5 true ∷ [] }
 
--- the count of looks that found no unit left stands at its last value
+-- the count of looks that found no unit left stands at its last value; the log has hints, and the units' clauses come after the three
 abbrev pub sample_state : PortState
 sample_state = record {
   held = first ∷ second ∷ third ∷ [];
   waiting = [];
   seen = lit 1 false ∷ lit 4 false ∷ [];
+  told = (lit 1 false, 4) ∷ (lit 4 false, 5) ∷ [];
   given = [];
   coming = 0;
   kept = 0;
@@ -55,6 +56,7 @@ sample_state = record {
   looks = 0;
   refused = None;
   ended = false;
+  hinted = true;
   output = None;
   home = [];
 }

@@ -182,6 +182,16 @@ impl<L: LineOut> Port for Crowd<L> {
         DEPTH
     }
 
+    fn has_hints(&self) -> bool {
+        let _looks = self.looks;
+        false
+    }
+
+    fn unit_number(&self, _lit: Lit) -> Option<u64> {
+        let _looks = self.looks;
+        None
+    }
+
     fn head(&mut self, c: Cref) -> Head {
         self.inner.head(c)
     }
@@ -190,7 +200,12 @@ impl<L: LineOut> Port for Crowd<L> {
         self.inner.read_lit(c, i)
     }
 
-    fn learn(&mut self, _lits: &[Lit], glue: u32) -> Result<Option<Cref>, PortStop> {
+    fn learn(
+        &mut self,
+        _lits: &[Lit],
+        glue: u32,
+        _hints: &[u64],
+    ) -> Result<Option<Cref>, PortStop> {
         self.glue = Some(glue);
         if self.memory {
             return Err(PortStop::Memory);
@@ -215,17 +230,17 @@ impl<L: LineOut> Port for Crowd<L> {
         }
     }
 
-    fn derive(&mut self, _lits: &[Lit], _glue: u32) -> Result<Cref, PortStop> {
+    fn derive(&mut self, _lits: &[Lit], _glue: u32, _hints: &[u64]) -> Result<Cref, PortStop> {
         self.memory = true;
         Err(PortStop::Memory)
     }
 
-    fn unit(&mut self, _lit: Lit) -> Result<(), PortStop> {
+    fn unit(&mut self, _lit: Lit, _hints: &[u64]) -> Result<(), PortStop> {
         self.memory = true;
         Err(PortStop::Memory)
     }
 
-    fn empty(&mut self) -> Result<(), PortStop> {
+    fn empty(&mut self, _hints: &[u64]) -> Result<(), PortStop> {
         self.memory = true;
         Err(PortStop::Memory)
     }

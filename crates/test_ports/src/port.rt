@@ -7,7 +7,7 @@ use sat_words::{Cref, Head, Lit, STOP_SAT, Stop};
 
 /// The port of the first of two rings, which have two slots for each class, over the variables 1 to 5. It holds three clauses at the addresses 1 to 3: `-1 2`,
 /// `-4 -1 5` and `-4 -2 -5`. The units 1 and 4 were seen, and the other ring has stopped. Each call that writes is refused
-/// for want of memory. There is one ticket.
+/// for want of memory. There is one ticket. The log has hints.
 #[derive(Drop)]
 pub struct SamplePort {
     /// 1: the first clause was learned last; 2: it was offered; 3: as many lemmas were learned as a reduction needs. At any
@@ -56,6 +56,21 @@ impl Port for SamplePort {
         2
     }
 
+    fn has_hints(&self) -> bool {
+        true
+    }
+
+    /// The units' clauses come after the three.
+    fn unit_number(&self, lit: Lit) -> Option<u64> {
+        if lit == Lit::new(1, false) {
+            Some(4)
+        } else if lit == Lit::new(4, false) {
+            Some(5)
+        } else {
+            None
+        }
+    }
+
     fn head(&mut self, c: Cref) -> Head {
         self.loads = self.loads.saturating_add(1);
         let at = c.address;
@@ -86,7 +101,12 @@ impl Port for SamplePort {
         }
     }
 
-    fn learn(&mut self, _lits: &[Lit], _glue: u32) -> Result<Option<Cref>, PortStop> {
+    fn learn(
+        &mut self,
+        _lits: &[Lit],
+        _glue: u32,
+        _hints: &[u64],
+    ) -> Result<Option<Cref>, PortStop> {
         Err(PortStop::Memory)
     }
 
@@ -95,15 +115,15 @@ impl Port for SamplePort {
         Drawn::Ticket
     }
 
-    fn derive(&mut self, _lits: &[Lit], _glue: u32) -> Result<Cref, PortStop> {
+    fn derive(&mut self, _lits: &[Lit], _glue: u32, _hints: &[u64]) -> Result<Cref, PortStop> {
         Err(PortStop::Memory)
     }
 
-    fn unit(&mut self, _lit: Lit) -> Result<(), PortStop> {
+    fn unit(&mut self, _lit: Lit, _hints: &[u64]) -> Result<(), PortStop> {
         Err(PortStop::Memory)
     }
 
-    fn empty(&mut self) -> Result<(), PortStop> {
+    fn empty(&mut self, _hints: &[u64]) -> Result<(), PortStop> {
         Err(PortStop::Memory)
     }
 

@@ -1,5 +1,5 @@
 -- The row of the tests of reduction.
-use Rattle.std.proofs.Common.{◌≡◌, ◌≢◌, ◌∙◌, ◌==◌, ℕ, suc, ◌≤◌, Bool, true, false, List, [], ◌∷◌, ◌++◌, map, None, All, IsSome, Contains, sym, refl, ap, subst, arith, nat_eq}
+use Rattle.std.proofs.Common.{◌≡◌, ◌≢◌, ◌∙◌, ◌==◌, ℕ, suc, ◌≤◌, Bool, true, false, List, [], ◌∷◌, ◌++◌, map, Some, None, All, IsSome, Contains, sym, refl, ap, subst, arith, nat_eq}
 use Rattle.std.specs.Prelude.{is_some}
 use Rattle.std.specs.declared.option.Option.{Option}
 use Rattle.std.specs.List.{IsDistinct, list_any}
@@ -9,6 +9,8 @@ use Rattle.std.proofs.lemmas.Bool.{or_right, false≢true}
 use Rattle.std.proofs.lemmas.List.Elements.{All-nil, All-from_recursion}
 use Rattle.sat_words.specs.Literal.{Literal, opposite}
 use Rattle.sat_words.specs.Clause.{has_opposites}
+use Rattle.sat_words.specs.Formats.{has_hints}
+use Rattle.rup_model.specs.Hints.{numbered, HintsFit}
 use Rattle.rup_model.specs.Rup.{rup}
 use Rattle.rup_model.specs.declared.journal.Entry.{Entry}
 use Rattle.rup_model.specs.Journal.{book, is_told}
@@ -19,8 +21,8 @@ use Rattle.sat_words.specs.declared.shared.Cref.{Cref}
 use Rattle.rup_model.specs.declared.journal.Kind.{Kind}
 use Rattle.rup_model.specs.declared.journal.Kind.TheVariants.{Derive}
 use Rattle.test_ring.specs.Glues.{glue_at}
-use Rattle.ring_port.specs.PortState.{PortState, Holding, IsPort, IsOn, held_at, lits_at, lits_in, known}
-use Rattle.ring_port.specs.Port.{IsClause, AddedClause, KeepsHeld, is_usable}
+use Rattle.ring_port.specs.PortState.{PortState, Holding, IsPort, IsOn, held_at, lits_at, lits_in, known, known_at}
+use Rattle.ring_port.specs.Port.{AreHints, IsClause, AddedClause, KeepsHeld, is_usable}
 use Rattle.ring_port.specs.Deleting.{DroppedOnce, TidiedUpTo, IsNotTaken}
 use Rattle.ring_port.proofs.PlainLemmas.{same_lookup, dropped_others}
 use Rattle.ring_trail.specs.declared.step.TrailStep.{TrailStep}
@@ -66,17 +68,18 @@ opens out entries last = record {
       distinct = refl;
     };
     lines = record { entries = entries; last = (let n = last in omega arith) };
+    paired = λ hinted. All-nil (λ (u : Literal × ℕ). (book clauses []).clause u.1 ≡ Some (u.0 ∷ []));
   };
 }
 
-begun_row : (out : LineState) → IsPort (begun_with 3 row_starts [] out 0) → IsRow (begun_with 3 row_starts [] out 0)
+begun_row : (out : LineState) → has_hints out.format ≡ false → IsPort (begun_with 3 row_starts [] out 0) → IsRow (begun_with 3 row_starts [] out 0)
 unfolding held_at
-begun_row out port = record { vars = refl; source = refl; usable = refl; taken = refl; port = port }
+begun_row out plain port = record { vars = refl; source = refl; usable = refl; taken = refl; plain = plain; port = port }
 
-pub begins : (s : PortState) (ss : List (ℕ × List Literal)) (us : List Literal) (out : LineState) → ss ≡ row_starts → us ≡ [] → s ≡ begun_with 3 ss us out 0 → IsPort s → IsRow s
-begins s ss us out e f g port =
-    let is = g ∙ ap (λ (xs : List (ℕ × List Literal)). begun_with 3 xs us out 0) e ∙ ap (λ (ls : List Literal). begun_with 3 row_starts ls out 0) f in
-    subst IsRow (sym is) (begun_row out (subst IsPort is port))
+pub begins : (s : PortState) (ss : List (ℕ × List Literal)) (us : List (Literal × ℕ)) (out : LineState) → ss ≡ row_starts → us ≡ [] → s ≡ begun_with 3 ss us out 0 → has_hints out.format ≡ false → IsPort s → IsRow s
+begins s ss us out e f g plain port =
+    let is = g ∙ ap (λ (xs : List (ℕ × List Literal)). begun_with 3 xs us out 0) e ∙ ap (λ (vs : List (Literal × ℕ)). begun_with 3 row_starts vs out 0) f in
+    subst IsRow (sym is) (begun_row out plain (subst IsPort is port))
 
 pub source_is : (s : PortState) → IsRow s → lits_at s 0 ≡ source
 source_is s k = lits_of_holding s 0 source_held k.source
@@ -94,6 +97,10 @@ copy_follows s c e k =
     subst (λ (d : List Literal). rup (known s) d ≡ true) (sym e)
     (or_right (has_opposites source) _ (conflicts_from_derivation (known s) (map opposite source) [] source tt (subst (λ (d : List Literal). Contains (known s) d) (source_is s k) (held_is_known s 0 (has_source s k))) refl))
 
+-- no hints are given
+pub copy_hints : (s : PortState) (c : List Literal) → IsRow s → AreHints s c []
+copy_hints s c row = subst (λ (b : Bool). HintsFit b (numbered (known_at s)) c []) (sym row.plain) refl
+
 pub lits_are : (a b c : Literal) → a ≡ lit 1 false → b ≡ lit 2 false → c ≡ lit 3 false → a ∷ b ∷ c ∷ [] ≡ source
 lits_are a b c e f g = ap (λ (x : Literal). x ∷ b ∷ c ∷ []) e ∙ ap (λ (x : Literal). lit 1 false ∷ x ∷ c ∷ []) f ∙ ap (λ (x : Literal). lit 1 false ∷ lit 2 false ∷ x ∷ []) g
 
@@ -103,6 +110,7 @@ row_added s m lits glue kind d row k keeps port = record {
   source = keeps 0 (has_source s row) ∙ row.source;
   usable = subst (λ (x : PortState). is_usable x.refused ≡ true) (sym k.state) row.usable;
   taken = ap (λ (x : PortState). x.taken) k.state ∙ row.taken;
+  plain = ap (λ (x : PortState). x.hinted) k.state ∙ row.plain;
   port = port;
 }
 
@@ -157,8 +165,8 @@ fresh_trail t e = subst IsFresh (sym e) (λ p le lt. absurd (omega arith))
 pub usable_left : (s r : PortState) (v w : WatchData) (steps : List TrailStep) (lemmas left : List Cref) → WasReduced s r v w steps lemmas left → is_usable s.refused ≡ true → is_usable r.refused ≡ true
 usable_left s r v w steps lemmas left k e = subst (λ (x : PortState). is_usable x.refused ≡ true) (sym k.port.state) e
 
-pub opens_from : (ss : List Start) (us : List Literal) (out : LineState) → ss ≡ starts_of row_starts → us ≡ [] → out.entries ≡ 0 → out.last ≡ 1 → CanOpen ss us out
-opens_from ss us out e f entries last = subst (λ (ts : List Start). CanOpen ts us out) (sym e) (subst (λ (ls : List Literal). CanOpen (starts_of row_starts) ls out) (sym f) (opens out entries last))
+pub opens_from : (ss : List Start) (us : List (Literal × ℕ)) (out : LineState) → ss ≡ starts_of row_starts → us ≡ [] → out.entries ≡ 0 → out.last ≡ 1 → CanOpen ss us out
+opens_from ss us out e f entries last = subst (λ (ts : List Start). CanOpen ts us out) (sym e) (subst (λ (vs : List (Literal × ℕ)). CanOpen (starts_of row_starts) vs out) (sym f) (opens out entries last))
 
 -- a copy more, and one less
 
@@ -179,6 +187,7 @@ one_less s m q a n row ne d t port =
         source = other 0 (λ e. ne (sym e)) ∙ row.source;
         usable = ap (λ (x : PortState). is_usable x.refused) t.state ∙ ap (λ (x : PortState). is_usable x.refused) d.state ∙ row.usable;
         taken = ap (λ (x : PortState). x.taken) t.state ∙ ap (λ (x : PortState). x.taken) d.state ∙ row.taken;
+        plain = ap (λ (x : PortState). x.hinted) t.state ∙ ap (λ (x : PortState). x.hinted) d.state ∙ row.plain;
         port = port;
       };
       others = other;

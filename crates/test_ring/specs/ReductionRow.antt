@@ -28,12 +28,13 @@ row_starts = (1, source) ∷ []
 abbrev pub source_held : Holding
 source_held = record { address = 0; number = 1; glue = 0; lits = source }
 
--- the start clause is held at the address 0, nothing was taken, and nothing stands against a line
+-- the start clause is held at the address 0, nothing was taken, and nothing stands against a line; the log has no hints
 pub record IsRow (s : PortState) : Type 0 where
   pub vars : s.vars ≡ 3
   pub source : held_at s 0 ≡ Some source_held
   pub usable : is_usable s.refused ≡ true
   pub taken : s.taken ≡ []
+  pub plain : s.hinted ≡ false
   pub port : IsPort s
 
 -- and the lemmas are attached

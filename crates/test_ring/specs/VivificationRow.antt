@@ -29,13 +29,14 @@ row_starts = (1, first) ∷ (2, second) ∷ []
 abbrev pub start_at : ℕ → ℕ → List Literal → Holding
 start_at a n c = record { address = a; number = n; glue = 0; lits = c }
 
--- both are held, at the addresses 0 and 4, and nothing stands against a line
+-- both are held, at the addresses 0 and 4, and nothing stands against a line; the log has no hints
 pub record IsRow (s : PortState) : Type 0 where
   pub vars : s.vars ≡ 3
   pub first : held_at s 0 ≡ Some (start_at 0 1 first)
   pub second : held_at s 4 ≡ Some (start_at 4 2 second)
   pub usable : is_usable s.refused ≡ true
   pub taken : s.taken ≡ []
+  pub plain : s.hinted ≡ false
 
 -- a copy of the second clause was derived with glue 2, attached after the first one, and vivified if nothing is true
 pub record VivifiedCopy (old new : PortState) (left : Vivified) : Type 0 where

@@ -26,7 +26,7 @@ pub fn open_problem<L: LineOut + Drop>(
     requires none { (L.told lines).entries ≡ 0 }
     requires last { (L.told lines).last ≡ length problem.formula.clauses }
     requires unspent { (L.told lines).spent ≡ false }
-    ensures made { IfOk result (λ port. port.state ≡ begun_with problem.formula.vars problem.start.items problem.units.items (L.told lines) limit) }
+    ensures made { IfOk result (λ port. port.state ≡ begun_with problem.formula.vars problem.start.items problem.listed.items (L.told lines) limit) }
     ensures small { IfOk result (λ port. port.state.vars ≤ 2 ^ 30) }
     ensures holds { IfOk result (λ port. HoldsStart port.state) }
     ensures port { IfOk result (λ port. IsPort port.state) }
@@ -34,14 +34,15 @@ pub fn open_problem<L: LineOut + Drop>(
     let Problem {
         formula,
         start,
-        units,
+        units: _,
+        listed,
     } = problem;
     let vars = formula.vars();
     if vars > 1 << 30 {
         return Err(Fail::from("too many variables"));
     }
     let starts = Starts::of_clauses(alloc, start.as_slice())?;
-    let Ok(port) = PlainPort::new(alloc, vars, starts, units, lines, limit) else {
+    let Ok(port) = PlainPort::new(alloc, vars, starts, listed, lines, limit) else {
         return Err(Fail::from("no memory for the port"));
     };
     Ok(port)
@@ -53,7 +54,7 @@ pub fn open_counted(
     alloc: Global,
     problem: Problem,
 ) -> Result<(PlainPort<CountedLines>, Vec<Cref>), Fail>
-    ensures made { IfOk result (λ opened. opened.0.state ≡ begun_with problem.formula.vars problem.start.items problem.units.items (begun_counting (length problem.formula.clauses)) 0) }
+    ensures made { IfOk result (λ opened. opened.0.state ≡ begun_with problem.formula.vars problem.start.items problem.listed.items (begun_counting (length problem.formula.clauses)) 0) }
     ensures start { IfOk result (λ opened. opened.1.items ≡ map (λ (h : Holding). record { address = h.address }) opened.0.state.start) }
     ensures held { IfOk result (λ opened. All (λ (c : Cref). IsSome (held_at opened.0.state c.address)) opened.1.items) }
 {
@@ -74,7 +75,7 @@ pub fn begin<L: LineOut + Drop>(
     requires none { (L.told lines).entries ≡ 0 }
     requires last { (L.told lines).last ≡ length problem.formula.clauses }
     requires unspent { (L.told lines).spent ≡ false }
-    ensures made { IfOk result (λ begun. begun.0.state ≡ begun_with problem.formula.vars problem.start.items problem.units.items (L.told lines) limit) }
+    ensures made { IfOk result (λ begun. begun.0.state ≡ begun_with problem.formula.vars problem.start.items problem.listed.items (L.told lines) limit) }
     ensures job { IfOk result (λ begun. IsJobOf begun.0.state begun.1) }
     ensures asked { IfOk result (λ begun. begun.1.seed ≡ seed) }
     ensures untouched { IfOk result (λ begun. IsUntouched begun.0.state) }

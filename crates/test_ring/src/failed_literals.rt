@@ -6,11 +6,12 @@ ghost use Rattle.ring_port.specs.Port.{is_usable};
 
 use crate::beginning::open_problem;
 use crate::stepping::quiet_start;
+use analyze::Analysis;
 use drat_text::{CountedLines, LineOut, SinkLines};
 use io_edge::MemSink;
 use ring_port::{Port, PortStop};
 use ring_probe::{Probed, probe};
-use sat_words::{Cref, Lit};
+use sat_words::{Cref, Lit, ProofFormat};
 use std::alloc::Global;
 use std::test::Fail;
 use test_formulas::Problem;
@@ -33,10 +34,12 @@ fn probe_over<P: Port>(alloc: Global, port: &mut P, clauses: &[Cref]) -> Result<
     if stepping.value(1).is_some() {
         return Err(Fail::from("the variable has a value"));
     }
+    let mut analysis = Analysis::new(alloc, stepping.trail.vars())?;
     Ok(probe(
         port,
         &mut stepping.watches,
         &mut stepping.trail,
+        &mut analysis,
         Lit::new(1, false),
     ))
 }
@@ -58,9 +61,16 @@ fn probe_one<L: LineOut + Drop>(
 }
 
 /// Whether 1 over a problem has this answer and this proof.
-fn comes_to(alloc: Global, problem: Problem, wanted: Answer, proof: &[u8]) -> Result<bool, Fail> {
+fn comes_to(
+    alloc: Global,
+    problem: Problem,
+    format: ProofFormat,
+    wanted: Answer,
+    proof: &[u8],
+) -> Result<bool, Fail> {
     let clauses = problem.formula.clauses().len() as u64;
-    let Ok(lines) = SinkLines::new(alloc, clauses, MemSink::new(alloc, ROOM, &[])?) else {
+    let sink = MemSink::new(alloc, ROOM, &[])?;
+    let Ok(lines) = SinkLines::with_format(alloc, format, clauses, sink) else {
         return Err(Fail::from("no memory for the lines"));
     };
     let (answer, lines) = probe_one(alloc, problem, lines)?;
@@ -100,32 +110,50 @@ fn four_clauses(alloc: Global) -> Result<Problem, Fail> {
     problem.with(alloc, &[one, Lit::new(2, true)])
 }
 
+/// The format of the proofs without hints.
+const PLAIN: ProofFormat = ProofFormat::Text;
+
 #[test]
 fn a_literal_holds(rt: HostRuntime) -> Result<(), Fail> {
     let alloc = rt.alloc();
-    assert!(rt; comes_to(alloc, one_clause(alloc)?, Ok(Probed::Holds), b"")?);
+    assert!(rt; comes_to(alloc, one_clause(alloc)?, PLAIN, Ok(Probed::Holds), b"")?);
     Ok(())
 }
 
+// What was attached last is looked at first: if the literal is true the second clause gives -2, and the first one is false.
 #[test]
 fn a_literal_fails(rt: HostRuntime) -> Result<(), Fail> {
     let alloc = rt.alloc();
-    let not_one = Lit::new(1, true);
-    assert!(rt;
-        comes_to(
-            alloc,
-            two_clauses(alloc)?,
-            Ok(Probed::Unit(not_one)),
-            b"-1 0\n"
-        )?
-    );
+    let answer = Ok(Probed::Unit(Lit::new(1, true)));
+    let proofs = [
+        (PLAIN, b"-1 0\n".as_slice()),
+        (ProofFormat::Lrat, b"3 -1 0 2 1 0\n".as_slice()),
+    ];
+    for (format, proof) in proofs {
+        assert!(rt; comes_to(alloc, two_clauses(alloc)?, format, answer, proof)?);
+    }
     Ok(())
 }
 
+// The literal is false by the clause of its line, which has the number 5. So the last clause gives -2, and the third one is false.
 #[test]
 fn both_literals_fail(rt: HostRuntime) -> Result<(), Fail> {
     let alloc = rt.alloc();
-    assert!(rt; comes_to(alloc, four_clauses(alloc)?, Ok(Probed::Empty), b"-1 0\n0\n")?);
+    let proofs = [
+        (PLAIN, b"-1 0\n0\n".as_slice()),
+        (ProofFormat::Lrat, b"5 -1 0 2 1 0\n6 0 5 4 3 0\n".as_slice()),
+    ];
+    for (format, proof) in proofs {
+        assert!(rt;
+            comes_to(
+                alloc,
+                four_clauses(alloc)?,
+                format,
+                Ok(Probed::Empty),
+                proof
+            )?
+        );
+    }
     Ok(())
 }
 

@@ -2,7 +2,7 @@
 ghost use Rattle.std.specs.Prelude.{◌≤◌};
 
 use crate::runs::{Kind, kind_of, run_in};
-use sat_words::Lit;
+use sat_words::{Lit, ProofFormat};
 use std::alloc::Global;
 use std::test::Fail;
 use test_formulas::Problem;
@@ -50,7 +50,7 @@ fn with_chosen(alloc: Global, problem: Problem, size: u32, clauses: u32) -> Resu
 }
 
 /// So many clauses of three literals, one of each of three blocks of variables.
-fn chosen_clauses(alloc: Global, size: u32, clauses: u32) -> Result<Problem, Fail>
+pub(crate) fn chosen_clauses(alloc: Global, size: u32, clauses: u32) -> Result<Problem, Fail>
     requires some { 1 ≤ size }
     requires few { size ≤ 100 }
 {
@@ -93,7 +93,13 @@ fn long_lines(text: &[u8]) -> u64 {
 #[test]
 fn makes_lemmas_shorter(rt: HostRuntime) -> Result<(), Fail> {
     let alloc = rt.alloc();
-    let (end, counts, sink) = run_in(alloc, chosen_clauses(alloc, 60, 830)?, 4000, ROOM)?;
+    let (end, counts, sink) = run_in(
+        alloc,
+        chosen_clauses(alloc, 60, 830)?,
+        4000,
+        ProofFormat::Text,
+        ROOM,
+    )?;
     assert!(rt; kind_of(&end) == Kind::Spent);
     assert!(rt; long_lines(sink.bytes()) > counts.learned);
     Ok(())
@@ -109,7 +115,7 @@ fn finds_a_failed_literal(rt: HostRuntime) -> Result<(), Fail> {
     let problem = with_chosen(alloc, Problem::new(alloc, 182), 60, 830)?;
     let problem = problem.with(alloc, &[failed.not(), last])?;
     let problem = problem.with(alloc, &[failed.not(), last.not()])?;
-    let (end, _counts, sink) = run_in(alloc, problem, 3500, ROOM)?;
+    let (end, _counts, sink) = run_in(alloc, problem, 3500, ProofFormat::Text, ROOM)?;
     assert!(rt; kind_of(&end) == Kind::Spent);
     assert!(rt; has_line(sink.bytes(), b"-181 0"));
     Ok(())
@@ -119,7 +125,13 @@ fn finds_a_failed_literal(rt: HostRuntime) -> Result<(), Fail> {
 #[test]
 fn decides_what_conflicts_met(rt: HostRuntime) -> Result<(), Fail> {
     let alloc = rt.alloc();
-    let (end, _counts, _sink) = run_in(alloc, chosen_clauses(alloc, 30, 420)?, 1000, ROOM)?;
+    let (end, _counts, _sink) = run_in(
+        alloc,
+        chosen_clauses(alloc, 30, 420)?,
+        1000,
+        ProofFormat::Text,
+        ROOM,
+    )?;
     assert!(rt; kind_of(&end) == Kind::Refuted);
     Ok(())
 }

@@ -40,7 +40,7 @@ pub fn add_lemma<P: Port>(
     ensures kept { OnOk result (KeepsHeld (P.state port.old) (P.state port.new)) }
 {
     let lits = [Lit::new(1, false), Lit::new(2, false), Lit::new(3, false)];
-    let Ok(copy) = port.derive(&lits, glue) else {
+    let Ok(copy) = port.derive(&lits, glue, &[]) else {
         return Err("no copy".into());
     };
     watches.attach(port, trail, copy)?;

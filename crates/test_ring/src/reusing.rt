@@ -15,7 +15,7 @@ pub(crate) fn copy_one<P: Port>(port: &mut P, glue: u32) -> Result<Cref, Fail>
     ensures { IfOk result (λ c. OneMore (P.state port.old) (P.state port.new) c) }
 {
     let lits = [Lit::new(1, false), Lit::new(2, false), Lit::new(3, false)];
-    let Ok(copy) = port.derive(&lits, glue) else {
+    let Ok(copy) = port.derive(&lits, glue, &[]) else {
         return Err("no copy".into());
     };
     Ok(copy)

@@ -5,7 +5,7 @@ use crate::beginning::begin;
 use drat_text::{CountedLines, LineOut, SinkLines};
 use io_edge::MemSink;
 use ring_run::{Counts, End, run_ring};
-use sat_words::Lit;
+use sat_words::{Lit, ProofFormat};
 use std::alloc::Global;
 use std::test::Fail;
 use test_formulas::Problem;
@@ -18,7 +18,7 @@ const SEED: u64 = 3;
 const ROOM: usize = 64;
 
 /// The four clauses on two variables, which no assignment makes true.
-fn four_clauses(alloc: Global) -> Result<Problem, Fail> {
+pub(crate) fn four_clauses(alloc: Global) -> Result<Problem, Fail> {
     let one = Lit::new(1, false);
     let two = Lit::new(2, false);
     let problem = Problem::new(alloc, 2);
@@ -29,7 +29,7 @@ fn four_clauses(alloc: Global) -> Result<Problem, Fail> {
 }
 
 /// A unit that forces 1, which forces 3; 4 occurs nowhere.
-fn three_clauses(alloc: Global) -> Result<Problem, Fail> {
+pub(crate) fn three_clauses(alloc: Global) -> Result<Problem, Fail> {
     let one = Lit::new(1, false);
     let two = Lit::new(2, false);
     let problem = Problem::new(alloc, 4);
@@ -49,7 +49,7 @@ fn two_clauses(alloc: Global) -> Result<Problem, Fail> {
 }
 
 /// The eight clauses on three variables, which no assignment makes true.
-fn eight_clauses(alloc: Global) -> Result<Problem, Fail> {
+pub(crate) fn eight_clauses(alloc: Global) -> Result<Problem, Fail> {
     let one = Lit::new(1, false);
     let two = Lit::new(2, false);
     let three = Lit::new(3, false);
@@ -64,7 +64,7 @@ fn eight_clauses(alloc: Global) -> Result<Problem, Fail> {
 }
 
 /// Two units that differ in sign.
-fn two_units(alloc: Global) -> Result<Problem, Fail> {
+pub(crate) fn two_units(alloc: Global) -> Result<Problem, Fail> {
     let one = Lit::new(1, false);
     let problem = Problem::new(alloc, 1).with_unit(alloc, one)?;
     problem.with_unit(alloc, one.not())
@@ -86,16 +86,17 @@ fn run_over<L: LineOut + Drop>(
     Ok((end, counts, port.into_lines()))
 }
 
-/// The same with its proof into a sink of this room.
+/// The same with its proof in this format into a sink of this room.
 pub(crate) fn run_in(
     alloc: Global,
     problem: Problem,
     limit: u64,
+    format: ProofFormat,
     room: usize,
 ) -> Result<(End, Counts, MemSink<'static>), Fail> {
     let sink = MemSink::new(alloc, room, &[])?;
     let clauses = problem.formula.clauses().len() as u64;
-    let Ok(lines) = SinkLines::new(alloc, clauses, sink) else {
+    let Ok(lines) = SinkLines::with_format(alloc, format, clauses, sink) else {
         return Err(Fail::from("no memory for the lines"));
     };
     let (end, counts, lines) = run_over(alloc, problem, limit, lines)?;
@@ -167,7 +168,7 @@ fn has_model(end: &End, lits: &[Lit], vars: usize) -> bool {
 
 /// Whether a run on a problem comes to this.
 fn comes_to(alloc: Global, problem: Problem, limit: u64, wanted: &Wanted) -> Result<bool, Fail> {
-    let (end, counts, sink) = run_in(alloc, problem, limit, ROOM)?;
+    let (end, counts, sink) = run_in(alloc, problem, limit, ProofFormat::Text, ROOM)?;
     let ended = kind_of(&end) == wanted.kind && has_model(&end, wanted.lits, wanted.vars);
     Ok(ended && counts == wanted.counts && sink.bytes() == wanted.text)
 }

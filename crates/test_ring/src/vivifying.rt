@@ -3,6 +3,7 @@ ghost use Rattle.std.specs.Prelude.{◌≡◌, true, IfOk, OnOk};
 ghost use Rattle.ring_port.specs.Port.{is_usable};
 ghost use Rattle.test_ring.specs.VivificationRow.{row_starts, IsRow, VivifiedCopy};
 
+use analyze::Analysis;
 use ring_port::{Port, Starts};
 use ring_trail::Trail;
 use sat_words::{Cref, Lit};
@@ -30,7 +31,7 @@ pub fn vivify_copy<P: Port>(alloc: Global, port: &mut P) -> Result<Vivified, Fai
     ensures vivified { IfOk result (VivifiedCopy (P.state port.old) (P.state port.new)) }
 {
     let lits = [Lit::new(1, false), Lit::new(2, false), Lit::new(3, false)];
-    let Ok(copy) = port.derive(&lits, 2) else {
+    let Ok(copy) = port.derive(&lits, 2, &[]) else {
         return Err("no copy".into());
     };
     let mut watches = Watches::new(alloc, 3)?;
@@ -44,7 +45,8 @@ pub fn vivify_copy<P: Port>(alloc: Global, port: &mut P) -> Result<Vivified, Fai
     if !trail.is_empty() {
         return Err("a literal is forced".into());
     }
-    match vivify(alloc, port, &mut watches, &mut trail, copy) {
+    let mut analysis = Analysis::new(alloc, 3)?;
+    match vivify(alloc, port, &mut watches, &mut trail, &mut analysis, copy) {
         Ok(left) => Ok(left),
         Err(_) => Err("a refusal".into()),
     }

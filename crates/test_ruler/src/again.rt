@@ -11,7 +11,9 @@ use crate::tallied::{Tallied, Written};
 use crate::{model_of, numbers_of};
 use drat_text::{LineStop, SinkLines};
 use io_edge::MemSink;
-use ruler_simp::{Outcome, Schedule, Simplified, again, simplify, what_is_left_resumes};
+use ruler_simp::{
+    Outcome, Schedule, Simplified, again, simplify, what_is_left_resumes, with_units,
+};
 use sat_words::Formula;
 use std::alloc::Global;
 use std::test::Fail;
@@ -67,9 +69,12 @@ fn go_on(
         units,
         stack,
     } = left;
+    let Ok(clauses) = with_units(alloc, start, units.as_slice()) else {
+        return (Err(LineStop::Memory), lines);
+    };
     let schedule = without_additions(rounds);
     again(
-        alloc, formula, vars, start, units, schedule, stack, end, lines,
+        alloc, formula, vars, clauses, units, schedule, stack, end, lines,
     )
 }
 

@@ -1,6 +1,7 @@
 //! What the ruler left of a formula.
 ghost use Rattle.std.specs.Prelude.{◌≡◌, false, IfOk, length, map, replicate};
 ghost use Rattle.model_stack.specs.Extend.{extend};
+ghost use Rattle.simp_base.specs.WorkState.{unit_lits};
 ghost use Rattle.ruler_simp.specs.Ruled.{AreOn};
 ghost use Rattle.test_ruler.specs.Models.{with_units};
 
@@ -23,11 +24,11 @@ pub fn numbers_of(alloc: Global, left: &Simplified) -> Result<Vec<u64>, AllocErr
 pub fn model_of(alloc: Global, vars: u32, left: &Simplified) -> Result<Assignment, AllocError>
     requires { AreOn vars left.now }
     ensures long { IfOk result (λ model. length model ≡ vars) }
-    ensures model { IfOk result (λ model. model ≡ extend left.now.stack (with_units (replicate vars false) left.now.units.items)) }
+    ensures model { IfOk result (λ model. model ≡ extend left.now.stack (with_units (replicate vars false) (unit_lits left.now.units.items))) }
 {
     let mut model = Assignment::new(alloc, vars)?;
     for unit in &left.units {
-        model.set(unit.var(), !unit.is_neg());
+        model.set(unit.0.var(), !unit.0.is_neg());
     }
     left.stack.extend(&mut model);
     Ok(model)

@@ -10,7 +10,7 @@ use ruler_simp::{Outcome, Schedule, Simplified, simplify};
 use sat_words::Formula;
 use std::alloc::{AllocError, Global};
 use std::test::Fail;
-use test_simplifiers::{counted_lines, formula_of, is_on, literals, text_lines};
+use test_simplifiers::{counted_lines, formula_of, is_on, literals, lits_of, text_lines};
 
 /// The variables of each row are 1 to this one.
 const VARS: u32 = 7;
@@ -136,11 +136,12 @@ fn is_left(alloc: Global, row: &Row, formula: &Formula, left: &Simplified) -> Re
         return Ok(false);
     };
     let units = literals(alloc, VARS, units)?;
+    let listed = lits_of(alloc, left.units.as_slice())?;
     let numbers = numbers_of(alloc, left)?;
     if left.vars != formula.vars() {
         return Ok(false);
     }
-    if numbers.as_slice() != starts || left.units.as_slice() != units.as_slice() {
+    if numbers.as_slice() != starts || listed.as_slice() != units.as_slice() {
         return Ok(false);
     }
     if !starts.is_empty() {
@@ -243,11 +244,12 @@ fn is_exchanged(alloc: Global, formula: &Formula, left: &Simplified) -> Result<b
     if numbers.as_slice() != KEPT_AND_ADDED {
         return Ok(false);
     }
+    let units = lits_of(alloc, left.units.as_slice())?;
     models_lift(
         alloc,
         formula,
         left.start.as_slice(),
-        left.units.as_slice(),
+        units.as_slice(),
         &left.stack,
     )
 }

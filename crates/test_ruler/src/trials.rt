@@ -10,7 +10,7 @@ use simp_base::{Parts, Run};
 use std::alloc::{AllocError, Global};
 use std::process::Abort;
 use std::test::Fail;
-use test_simplifiers::{Simplifier, counted_work, is_on, run};
+use test_simplifiers::{Simplifier, counted_work, is_on, lits_of, run};
 
 /// How many formulas each one is tried on.
 const TRIALS: u64 = 300;
@@ -25,13 +25,16 @@ fn keeps_models(
     requires { All (λ fix. fix.lit.var ≤ 6) left.now.stack }
 {
     match answer {
-        Run::Done => models_lift(
-            alloc,
-            formula,
-            left.clauses.as_slice(),
-            left.units.as_slice(),
-            &left.stack,
-        ),
+        Run::Done => {
+            let units = lits_of(alloc, left.units.as_slice())?;
+            models_lift(
+                alloc,
+                formula,
+                left.clauses.as_slice(),
+                units.as_slice(),
+                &left.stack,
+            )
+        }
         Run::Refuted => has_no_model(alloc, formula),
     }
 }
@@ -45,7 +48,8 @@ fn is_as_defined(
     left: &Parts<CountedLines>,
 ) -> Result<bool, AllocError> {
     let clauses = left.clauses.as_slice();
-    let units = left.units.as_slice();
+    let listed = lits_of(alloc, left.units.as_slice())?;
+    let units = listed.as_slice();
     match simplifier {
         Simplifier::Units => are_units_taken(alloc, formula, answer, clauses, units),
         Simplifier::Subsumption => Ok(answer == Run::Done && is_reduced(clauses)),

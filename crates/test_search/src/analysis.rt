@@ -41,6 +41,8 @@ fn learns_from_the_third_clause(rt: HostRuntime) -> Result<(), Fail> {
     };
     let conclusion = analysis.analyze(&mut port, &trail, Cref { address: 3 });
     assert!(rt; is_learned(conclusion, analysis.lits()));
+    // 2 by the first clause, though it is not in the lemma, and then 5 by the second one
+    assert!(rt; analysis.hints() == [1, 2, 3].as_slice());
     Ok(())
 }
 
@@ -56,5 +58,6 @@ fn learns_from_the_second_clause(rt: HostRuntime) -> Result<(), Fail> {
     };
     let conclusion = analysis.analyze(&mut port, &trail, Cref { address: 2 });
     assert!(rt; is_learned(conclusion, analysis.lits()));
+    assert!(rt; analysis.hints() == [1, 3, 2].as_slice());
     Ok(())
 }

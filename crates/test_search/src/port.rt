@@ -1,13 +1,35 @@
 // `ring_port`, the port in memory: a unit that is given and written, its stop, and lines that fail or go to a list.
-ghost use Rattle.std.specs.Prelude.{◌≡◌, false};
+ghost use Rattle.std.specs.Prelude.{◌≡◌, ◌∷◌, [], false, IfOk};
+ghost use Rattle.ring_port.specs.Port.{AreHints};
 
 use crate::list_lines::ListLines;
 use drat_text::{CountedLines, LineOut, SinkLines};
 use io_edge::MemSink;
 use ring_port::{PlainPort, Port, PortStop, Set, Starts};
-use sat_words::{Line, Lit, Lits, STOP_SAT, Stop};
+use sat_words::{Line, Lit, Lits, ProofFormat, STOP_SAT, Stop};
 use std::alloc::Global;
 use std::test::Fail;
+
+/// The number of a unit's clause, if the log has hints.
+fn number_of<P: Port>(port: &P, unit: Lit) -> Option<u64> {
+    if !port.has_hints() {
+        return None;
+    }
+    port.unit_number(unit)
+}
+
+/// Hints for the line of a unit that has a number: this one, if the log has hints.
+fn unit_hints<P: Port>(alloc: Global, port: &P, unit: Lit) -> Result<Vec<u64>, Fail>
+    ensures { IfOk result (λ hints. AreHints (P.state port.now) (unit ∷ []) hints.items) }
+{
+    if !port.has_hints() {
+        return Ok(Vec::new(alloc));
+    }
+    let Some(number) = port.unit_number(unit) else {
+        return Err("no number".into());
+    };
+    Ok(Vec::from_slice(alloc, &[number])?)
+}
 
 /// The port over lines for one clause, the unit 1, which was taken, and what became of its line.
 fn write_unit<L: LineOut + Drop>(
@@ -20,14 +42,15 @@ fn write_unit<L: LineOut + Drop>(
 {
     let one = Lit::new(1, false);
     let starts = Starts::new(alloc);
-    let units = Vec::from_slice(alloc, &[one])?;
+    let units = Vec::from_slice(alloc, &[(one, 1)])?;
     let Ok(mut port) = PlainPort::new(alloc, 2, starts, units, lines, 0) else {
         return Err("no memory".into());
     };
     let Some(unit) = port.next_unit() else {
         return Err("no unit".into());
     };
-    let told = port.unit(unit);
+    let hints = unit_hints(alloc, &port, unit)?;
+    let told = port.unit(unit, hints.as_slice());
     Ok((port, unit, told))
 }
 
@@ -51,6 +74,25 @@ fn a_unit_is_given_and_written(rt: HostRuntime) -> Result<(), Fail> {
     let (end, sink) = port.into_lines().finish();
     assert!(rt; end == Ok(()));
     assert!(rt; sink.bytes() == b"1 0\n".as_slice());
+    Ok(())
+}
+
+// The unit is the formula's clause 1, and the line gets the next number.
+#[test]
+fn a_unit_is_written_with_its_hint(rt: HostRuntime) -> Result<(), Fail> {
+    let alloc = rt.alloc();
+    let sink = MemSink::new(alloc, 64, &[])?;
+    let Ok(lines) = SinkLines::with_format(alloc, ProofFormat::Lrat, 1, sink) else {
+        return Err("no memory".into());
+    };
+    let (port, unit, told) = write_unit(alloc, lines)?;
+    assert!(rt; told == Ok(()));
+    assert!(rt; number_of(&port, unit).is_some());
+    let others = [unit.not(), Lit::new(2, false)].map(|lit| number_of(&port, lit));
+    assert!(rt; others == [None, None]);
+    let (end, sink) = port.into_lines().finish();
+    assert!(rt; end == Ok(()));
+    assert!(rt; sink.bytes() == b"2 1 0 1 0\n".as_slice());
     Ok(())
 }
 

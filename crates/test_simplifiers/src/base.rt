@@ -64,7 +64,7 @@ fn leaves_one_line(work: Written, one: Lit) -> bool {
     let (end, sink) = parts.output.finish();
     end.is_ok()
         && parts.clauses.len() == 2
-        && parts.units.as_slice() == [one].as_slice()
+        && parts.units.as_slice() == [(one, 1)].as_slice()
         && sink.bytes() == b"1 2 0\n".as_slice()
 }
 

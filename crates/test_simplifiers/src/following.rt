@@ -2,7 +2,7 @@
 ghost use Rattle.std.specs.Prelude.{◌≡◌, ◌∷◌, [], List, true, Contains, IfOk};
 ghost use Rattle.rup_model.specs.Rup.{rup, rat};
 ghost use Rattle.sat_words.specs.Literal.{Literal};
-ghost use Rattle.simp_base.specs.WorkState.{known, lists};
+ghost use Rattle.simp_base.specs.WorkState.{known, lists, unit_lits};
 
 use drat_text::LineOut;
 use rup_model::{is_rat, is_rup};
@@ -51,6 +51,17 @@ pub fn lists_of(alloc: Global, cells: &[(u64, Clause)]) -> Result<Vec<Lits>, All
         clauses.push(Lits::from_slice(alloc, cell.1.lits())?)?;
     }
     Ok(clauses)
+}
+
+/// The literals of units with numbers.
+pub fn lits_of(alloc: Global, units: &[(Lit, u64)]) -> Result<Vec<Lit>, AllocError>
+    ensures { IfOk result (λ lits. lits.items ≡ unit_lits units.now) }
+{
+    let mut lits = Vec::new(alloc);
+    for unit in units {
+        lits.push(unit.0)?;
+    }
+    Ok(lits)
 }
 
 /// Whether the clause of these literals is RAT on the first of them over the clauses that are alive.

@@ -6,7 +6,7 @@ mod formulas;
 mod simplifiers;
 mod works;
 
-pub use following::{follows, follows_there, is_rat_there, lists_of};
+pub use following::{follows, follows_there, is_rat_there, lists_of, lits_of};
 pub use formulas::{formula_of, is_on, literal, literals};
 pub use simplifiers::{Simplifier, run};
 pub use works::{counted_lines, counted_work, text_lines, text_work, written_lines, written_work};

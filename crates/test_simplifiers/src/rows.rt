@@ -3,7 +3,7 @@
 ghost use Rattle.std.specs.Prelude.{◌≡◌, ◌≤◌, false, All};
 
 use crate::{
-    Simplifier, counted_work, elimination, equivalence, formula_of, is_on, literals, run,
+    Simplifier, counted_work, elimination, equivalence, formula_of, is_on, literals, lits_of, run,
     subsumption, text_work, units,
 };
 use drat_text::{LineOut, LineStop, SinkLines};
@@ -55,11 +55,12 @@ fn is_left(
     left: Parts<SinkLines<MemSink<'static>>>,
 ) -> Result<bool, Fail> {
     let units = literals(alloc, VARS, row.units)?;
+    let listed = lits_of(alloc, left.units.as_slice())?;
     let (end, sink) = left.output.finish();
     Ok(
         end.is_ok()
             && sink.bytes() == row.text.as_bytes()
-            && left.units.as_slice() == units.as_slice()
+            && listed.as_slice() == units.as_slice()
             && left.clauses.len() == row.left,
     )
 }

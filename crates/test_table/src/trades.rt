@@ -15,7 +15,7 @@ use std::alloc::Global;
 use std::test::Fail;
 use std::thread;
 use std::thread::Threads;
-use test_tables::{Ring, begin, gather};
+use test_tables::{Ring, begin, gather, word_at};
 
 /// Gives the count up, and counts where it was the last.
 fn give_one_up<B: Ledger>(table: &Shared<B>, ring: &mut Ring<B>)
@@ -135,17 +135,11 @@ pub fn gather_all<B: Ledger>(table: &Shared<B>, first: &mut Pass<B>, rings: Vec<
     lasts
 }
 
-/// How often a cell is counted, by the word at its address; none if the table has no such word. The word is read without a
-/// pass, so that no clause knows it.
+/// How often a cell is counted, by the word at its address; none if the table has no such word.
 pub fn count_of<B: Ledger>(table: &Shared<B>, cell: Cref) -> Option<u64>
     ensures { IsSome result ↔ (cell.address < table.now.table.shared.table_id.words) }
 {
-    let place = cell.address as usize;
-    if place < table.table.word_count() {
-        Some(table.table.shared.peek(place))
-    } else {
-        None
-    }
+    word_at(table, cell.address as usize)
 }
 
 /// The head and the literals of the ring's cell.

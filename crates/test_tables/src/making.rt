@@ -1,5 +1,6 @@
 //! Tables that are made for a problem.
-ghost use Rattle.std.specs.Prelude.{◌≡◌, false, [], length, IfOk};
+ghost use Rattle.std.specs.Prelude.{◌≡◌, false, [], length, map, IfOk};
+ghost use Rattle.sat_words.specs.Formats.{has_hints};
 ghost use Rattle.share_rule.specs.Books.{HasLog};
 ghost use Rattle.share_rule.specs.FirstWords.{MayBegin, begun_with, starts_at, addresses};
 ghost use Rattle.share_rule.specs.declared.Layout.{Layout};
@@ -26,13 +27,13 @@ fn make_over<B: Ledger>(
     formula: &Formula,
     layout: Layout,
     start: &[(u64, Clause)],
-    units: &[Lit],
+    units: &[(Lit, u64)],
     book: B,
 ) -> Made<B>
     requires begins { MayBegin formula.now.clauses layout [] start.now units.now }
     requires book { HasLog B.account B.stands book (B.origin book) layout formula.now.clauses [] }
     requires whole { (B.account book).broken ≡ false }
-    ensures made { IfOk result (λ m. (m.0.layout ≡ layout) × IsPassOf m.0 m.1 × (m.1.me ≡ (first_view layout (begun_with formula.now.clauses layout [] start.now units.now) (B.origin book), []))) }
+    ensures made { IfOk result (λ m. (m.0.layout ≡ layout) × IsPassOf m.0 m.1 × (m.1.me ≡ (first_view layout (begun_with formula.now.clauses layout (has_hints (B.origin book).format) [] start.now units.now) (B.origin book), []))) }
     ensures cells { IfOk result (λ m. m.2.items ≡ addresses (starts_at (first_cell layout) start.now)) }
 {
     make(alloc, formula, layout, start, units, book)
@@ -43,19 +44,19 @@ fn try_over<B: Ledger + Drop>(
     alloc: Global,
     formula: &Formula,
     start: &[(u64, Clause)],
-    units: &[Lit],
+    units: &[(Lit, u64)],
     rings: u32,
     words: u64,
     depth: u32,
     conflicts: u64,
     book: B,
 ) -> Result<Made<B>, Fail>
-    requires problem { IsProblem formula.now start.now units.now }
+    requires problem { IsProblem formula.now start.now (map (λ u. u.0) units.now) units.now }
     requires book { (l : Layout) → HasLog B.account B.stands book (B.origin book) l formula.now.clauses [] }
     requires whole { (B.account book).broken ≡ false }
     ensures first { IfOk result (λ m. IfOk m (λ m. IsFirst m.0 m.1 0 × (m.1.me.0.parts ≡ []))) }
     ensures layout { IfOk result (λ m. IfOk m (λ m. m.0.layout ≡ record { rings = rings; vars = formula.now.vars; words = words; depth = depth; conflicts = conflicts })) }
-    ensures opening { IfOk result (λ m. IfOk m (λ m. m.1.me.0.opening ≡ begun_with formula.now.clauses m.0.layout [] start.now units.now)) }
+    ensures opening { IfOk result (λ m. IfOk m (λ m. m.1.me.0.opening ≡ begun_with formula.now.clauses m.0.layout (has_hints (B.origin book).format) [] start.now units.now)) }
     ensures cells { IfOk result (λ m. IfOk m (λ m. m.2.items ≡ addresses m.1.me.0.opening.starts)) }
 {
     let vars = formula.vars();
@@ -96,11 +97,11 @@ pub fn open_with<B: Ledger + Drop>(
     requires whole { (B.account book).broken ≡ false }
     ensures first { IfOk result (λ m. IsFirst m.0 m.1 0 × (m.1.me.0.parts ≡ [])) }
     ensures layout { IfOk result (λ m. m.0.layout ≡ record { rings = rings; vars = problem.now.formula.vars; words = words; depth = depth; conflicts = conflicts }) }
-    ensures opening { IfOk result (λ m. m.1.me.0.opening ≡ begun_with problem.now.formula.clauses m.0.layout [] problem.now.start.items problem.now.units.items) }
+    ensures opening { IfOk result (λ m. m.1.me.0.opening ≡ begun_with problem.now.formula.clauses m.0.layout (has_hints (B.origin book).format) [] problem.now.start.items problem.now.listed.items) }
     ensures cells { IfOk result (λ m. m.2.items ≡ addresses m.1.me.0.opening.starts) }
 {
     let start = problem.start.as_slice();
-    let units = problem.units.as_slice();
+    let units = problem.listed.as_slice();
     match try_over(
         alloc,
         &problem.formula,
@@ -168,7 +169,7 @@ pub fn refusal(
     words: u64,
 ) -> Result<(HoleStop, u64), Fail> {
     let start = problem.start.as_slice();
-    let units = problem.units.as_slice();
+    let units = problem.listed.as_slice();
     let book = new_book(alloc, &problem.formula)?;
     match try_over(
         alloc,

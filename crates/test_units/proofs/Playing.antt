@@ -3,13 +3,13 @@ use Rattle.std.proofs.Common.{◌≡◌, ◌∙◌, ℕ, zero, suc, ◌==◌, �
 use Rattle.std.specs.Prelude.{slice_index_or, not, ◌&&◌, Option}
 use Rattle.std.specs.List.{list_any}
 use Rattle.sat_words.specs.Literal.{Literal}
-use Rattle.sat_words.specs.Clause.{same_set, includes}
+use Rattle.sat_words.specs.Clause.{includes}
 use Rattle.atomic_table.specs.declared.shared.Seat.{Seat}
 use Rattle.rup_model.specs.Basics.{one_if}
 use Rattle.rup_model.specs.declared.journal.Addition.{Addition}
 use Rattle.rup_model.specs.declared.journal.Kind.TheVariants.{Learn}
 use Rattle.rup_model.specs.declared.journal.Entry.TheVariants.{Add}
-use Rattle.rup_model.specs.Journal.{fresh, added}
+use Rattle.rup_model.specs.Journal.{fresh}
 use Rattle.rup_model.specs.Opening.{IsLong, start_clauses}
 use Rattle.rup_model.specs.Rounds.{Rounds, rounds}
 use Rattle.rup_model.specs.Rup.{rup, conflicts}
@@ -28,7 +28,7 @@ use Rattle.share_rule.specs.Tickets.{MayDraw}
 use Rattle.share_rule.specs.Views.{only, no_part}
 use Rattle.test_tables.specs.Samples.{IsRing}
 use Rattle.test_units.specs.Doings.{DrewTicket}
-use Rattle.test_units.specs.Samples.{IsBeginner, IsLearner, IsPairHolder, plus, three, pair, drawn_part, pair_part}
+use Rattle.test_units.specs.Samples.{IsBeginner, IsLearner, IsPairHolder, WroteLast, plus, three, pair, drawn_part, pair_part}
 
 -- an opening that has the three clauses
 abbrev small : CoreOpening → ℕ → CoreOpening
@@ -37,14 +37,14 @@ small o from = record o { starts = starts_at from three }
 small_is : (o : CoreOpening) (from : ℕ) → o.starts ≡ starts_at from three → o ≡ small o from
 small_is o from e = λ i. record o { starts = e i }
 
-pair_follows : (o : CoreOpening) (from r f : ℕ) → follows (drawn_part (small o from) r true f) pair ≡ true
+pair_follows : (o : CoreOpening) (from r f : ℕ) → follows false (drawn_part (small o from) r true f) pair [] ≡ true
 unfolding rup conflicts Rounds rounds
 pair_follows o from r f = refl
 
 pair_new : (o : CoreOpening) (from r : ℕ) → fresh (start_clauses (opening_of (small o from))) [] r pair ≡ true
 pair_new o from r = refl
 
-unit_follows : (o : CoreOpening) (from r a n i f : ℕ) → follows (pair_part (small o from) r a n i true f) (plus 2 ∷ []) ≡ true
+unit_follows : (o : CoreOpening) (from r a n i f : ℕ) → follows false (pair_part (small o from) r a n i true f) (plus 2 ∷ []) [] ≡ true
 unfolding rup conflicts Rounds rounds
 unit_follows o from r a n i f = refl
 
@@ -81,7 +81,8 @@ may_learn_pair t p q ring h r opening drew =
     let is : o ≡ small o h.from = small_is o h.from h.starts_are in (
       record {
         is_ring = r;
-        follows_is = ap (λ (x : Part). follows x pair) core ∙ ap (λ (w : CoreOpening). follows (drawn_part w ring true drew.found) pair) is ∙ pair_follows o h.from ring drew.found;
+        plain = ap (λ (w : CoreOpening). w.hinted) opening ∙ h.plain;
+        follows_is = ap (λ (x : Part). follows false x pair []) core ∙ ap (λ (w : CoreOpening). follows false (drawn_part w ring true drew.found) pair []) is ∙ pair_follows o h.from ring drew.found;
         ticket_is = ap (λ (x : Part). x.ticket) core;
         new_is = (λ i. fresh (start_clauses (opening_of (opening i))) (map (λ (w : Placed). w.entry) (core i).wrote) ring pair) ∙ ap (λ (w : CoreOpening). fresh (start_clauses (opening_of w)) [] ring pair) is ∙ pair_new o h.from ring;
         on = pair_on t.layout.vars h.vars;
@@ -107,6 +108,7 @@ holder_drew t p q ring a h r opening drew = record {
   core_is = drew.core_is ∙ ap (λ (x : Part). record x { ticket = true; found = drew.found }) h.core_is ∙ (λ j. pair_part (sym opening j) ring a h.number h.place true drew.found);
   from = h.from;
   starts_are = ap (λ (o : CoreOpening). o.starts) opening ∙ h.starts_are;
+  plain = ap (λ (o : CoreOpening). o.hinted) opening ∙ h.plain;
   vars = h.vars;
 }
 
@@ -125,7 +127,8 @@ may_learn_unit t p ring a h =
     let is : o ≡ small o h.from = small_is o h.from h.starts_are in
     record {
       is_ring = h.is_ring;
-      follows_is = ap (λ (q : Part). follows q (plus 2 ∷ [])) h.core_is ∙ ap (λ (w : CoreOpening). follows (pair_part w ring a h.number h.place true h.found) (plus 2 ∷ [])) is ∙ unit_follows o h.from ring a h.number h.place h.found;
+      plain = h.plain;
+      follows_is = ap (λ (q : Part). follows false q (plus 2 ∷ []) []) h.core_is ∙ ap (λ (w : CoreOpening). follows false (pair_part w ring a h.number h.place true h.found) (plus 2 ∷ []) []) is ∙ unit_follows o h.from ring a h.number h.place h.found;
       ticket_is = ap (λ (q : Part). q.ticket) h.core_is;
       new_is = ap (λ (q : Part). fresh (start_clauses (opening_of o)) (map (λ (w : Placed). w.entry) q.wrote) ring (plus 2 ∷ [])) h.core_is ∙ ap (λ (w : CoreOpening). fresh (start_clauses (opening_of w)) (map (λ (x : Placed). x.entry) (pair_part w ring a h.number h.place true h.found).wrote) ring (plus 2 ∷ [])) is ∙ unit_new o h.from ring a h.number h.place h.found;
       on = unit_on t.layout.vars h.vars;
@@ -142,12 +145,13 @@ holds_pair t p ring a ticket h = (
   ap (λ (q : Part). q.seen) h.core_is,
 )
 
--- after the unit's line it is known, and no unit is seen yet
+-- after the unit's line it is the last, and no unit is seen yet
 pub unit_told : (q p : Part) (o : CoreOpening) (ring a n i m j f : ℕ) → p ≡ pair_part o ring a n i true f → q ≡ wrote_part j (Add (record { ring = ring; number = m; lits = plus 2 ∷ []; kind = Learn; hints = [] })) (after_learn Learn p)
-    → (list_any (same_set (plus 2 ∷ [])) (added (map (λ (x : Placed). x.entry) q.wrote)) ≡ true) × (q.seen ≡ [])
-unit_told q p o ring a n i m j f had is =
-    let e = is ∙ ap (λ (x : Part). wrote_part j (Add (record { ring = ring; number = m; lits = plus 2 ∷ []; kind = Learn; hints = [] })) (after_learn Learn x)) had in
-    (ap (λ (x : Part). list_any (same_set (plus 2 ∷ [])) (added (map (λ (y : Placed). y.entry) x.wrote))) e, ap (λ (x : Part). x.seen) e)
+    → WroteLast ring (plus 2) m q × (q.seen ≡ [])
+unit_told q p o ring a n i m j f had is = (
+  (j, p.wrote, ap (λ (x : Part). x.wrote) is),
+  ap (λ (x : Part). x.seen) is ∙ ap (λ (x : Part). x.seen) had,
+)
 
 pub two_on : (vars : ℕ) → 2 ≤ vars → (i : ℕ) (k : Literal) → i < 1 → (1 ≤ (get_or (plus 2 ∷ []) i k).var) × ((get_or (plus 2 ∷ []) i k).var ≤ vars)
 two_on = unit_on

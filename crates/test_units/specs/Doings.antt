@@ -46,17 +46,18 @@ NotBuried a v w = ((length (clause_of a v).lits ≢ 2) × ((only w).core ≡ (on
 
 -- Listing
 
--- in the turn no unit was listed that the ring had not seen, and it listed this one
-pub record ListedOne (lit : Literal) (v w : View) : Type 0 where
+-- in the turn no unit was listed that the ring had not seen, and it listed this one with this number
+pub record ListedOne (lit : Literal) (number : ℕ) (v w : View) : Type 0 where
   pub none : (only w).caught_up ≡ (only v).caught_up + 1
-  pub core_is : (only w).core ≡ seen_part lit (only v).core
+  pub core_is : (only w).core ≡ seen_part lit number (only v).core
   pub gave : GaveTurn w
 
 -- in the turn one was listed, which the ring read
 pub record ReadOne (v w : View) : Type 0 where
   pub lit : Literal
+  pub number : ℕ
   pub some : (only w).caught_up ≡ (only v).caught_up
-  pub core_is : (only w).core ≡ seen_part lit (only v).core
+  pub core_is : (only w).core ≡ seen_part lit number (only v).core
   pub gave : GaveTurn w
 
 -- Writing

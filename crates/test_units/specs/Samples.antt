@@ -1,5 +1,5 @@
 -- What the tests start from, and what their rings know.
-use Rattle.std.specs.Prelude.{◌≡◌, ◌≤◌, ℕ, Bool, true, false, List, [], ◌∷◌, map, Option}
+use Rattle.std.specs.Prelude.{◌≡◌, ◌≤◌, ℕ, Bool, true, false, List, [], ◌∷◌, ◌++◌, map, Option}
 use Rattle.sat_words.specs.Literal.{Literal}
 use Rattle.rup_model.specs.Journal.{fresh}
 use Rattle.rup_model.specs.Opening.{start_clauses}
@@ -32,16 +32,19 @@ minus v = record { var = v; neg = true }
 abbrev pub three : List (ℕ × List Literal)
 three = (1, plus 1 ∷ plus 2 ∷ plus 3 ∷ []) ∷ (2, plus 1 ∷ plus 2 ∷ minus 3 ∷ []) ∷ (3, minus 1 ∷ plus 2 ∷ []) ∷ []
 
--- the pass has this ring alone, which has not the turn, and the unit follows from what it knows
+-- the pass has this ring alone, which has not the turn; the log has no hints; the unit follows from what the ring knows
 pub record IsWriter {B : Type 0} (t : Shared B) (p : Seat (Option B) View) (ring : ℕ) (lit : Literal) : Type 0 where
   pub is_ring : IsRing t p ring
-  pub follows_is : follows (only p.me.0).core (lit ∷ []) ≡ true
+  pub plain : p.me.0.opening.hinted ≡ false
+  pub follows_is : follows false (only p.me.0).core (lit ∷ []) [] ≡ true
   pub on : InVars t.layout (lit ∷ [])
 
--- it may learn the clause, which follows from what it knows, contains no start clause and none that it learned; it has a ticket
+-- it may learn the clause in a log with no hints; it follows from what the ring knows, contains no start clause and none that the
+-- ring learned; the ring has a ticket
 pub record IsLearner {B : Type 0} (t : Shared B) (p : Seat (Option B) View) (ring : ℕ) (lits : List Literal) : Type 0 where
   pub is_ring : IsRing t p ring
-  pub follows_is : follows (only p.me.0).core lits ≡ true
+  pub plain : p.me.0.opening.hinted ≡ false
+  pub follows_is : follows false (only p.me.0).core lits [] ≡ true
   pub ticket_is : (only p.me.0).core.ticket ≡ true
   pub new_is : fresh (start_clauses (opening_of p.me.0.opening)) (map (λ (w : Placed). w.entry) (only p.me.0).core.wrote) ring lits ≡ true
   pub on : InVars t.layout lits
@@ -52,12 +55,13 @@ pub record IsBuilder {B : Type 0} (t : Shared B) (p : Seat (Option B) View) (rin
   pub making_is : (only p.me.0).core.making ≡ record { address = address; number = number; lits = lits } ∷ []
   pub glue_is : glue_in number (only p.me.0).glues ≡ 1
 
--- it has its grant, has done nothing yet, and the start clauses are those three
+-- it has its grant, has done nothing yet, the start clauses are those three, and the log has no hints
 pub record IsBeginner {B : Type 0} (t : Shared B) (p : Seat (Option B) View) (ring : ℕ) : Type 0 where
   pub is_ring : IsRing t p ring
   pub parts_are : p.me.0.parts ≡ new_part p.me.0.opening ring ∷ []
   pub from : ℕ
   pub starts_are : p.me.0.opening.starts ≡ starts_at from three
+  pub plain : p.me.0.opening.hinted ≡ false
   pub vars : 2 ≤ t.layout.vars
 
 -- what it learns
@@ -83,4 +87,9 @@ pub record IsPairHolder {B : Type 0} (t : Shared B) (p : Seat (Option B) View) (
   pub core_is : (only p.me.0).core ≡ pair_part p.me.0.opening ring a number place ticket found
   pub from : ℕ
   pub starts_are : p.me.0.opening.starts ≡ starts_at from three
+  pub plain : p.me.0.opening.hinted ≡ false
   pub vars : 2 ≤ t.layout.vars
+
+-- the last line that the ring wrote is this unit under this number
+abbrev pub WroteLast : ℕ → Literal → ℕ → Part → Type 0
+WroteLast ring lit number p = (i : ℕ) × (ws : List Placed) × (p.wrote ≡ ws ++ record { place = i; entry = Add (record { ring = ring; number = number; lits = lit ∷ []; kind = Learn; hints = [] }) } ∷ [])

@@ -1,8 +1,5 @@
 //! Rings that learn, put what they learned into a cell, delete it, and list a unit.
-ghost use Rattle.std.specs.Prelude.{◌≡◌, ◌≢◌, ◌≤◌, ◌<◌, ◌+◌, ℕ, ◌∷◌, [], true, false, map, IfSome, IfNone, MatchBool, MatchOption, length};
-ghost use Rattle.std.specs.List.{list_any};
-ghost use Rattle.sat_words.specs.Clause.{same_set};
-ghost use Rattle.rup_model.specs.Journal.{added};
+ghost use Rattle.std.specs.Prelude.{◌≡◌, ◌≢◌, ◌≤◌, ◌<◌, ◌+◌, ℕ, ◌∷◌, [], true, false, IfSome, IfNone, MatchBool, MatchOption, length};
 ghost use Rattle.share_rule.specs.Layout.{InVars};
 ghost use Rattle.share_core.specs.State.{times_at};
 ghost use Rattle.share_core.specs.Events.{wrote_part};
@@ -17,7 +14,7 @@ ghost use Rattle.share_core.specs.Learning.{after_learn};
 ghost use Rattle.share_rule.specs.Tickets.{MayDraw};
 ghost use Rattle.share_rule.specs.Views.{only};
 ghost use Rattle.test_units.specs.Doings.{WroteNone, DrewTicket, Buried, NotBuried, ListedOne, ReadOne};
-ghost use Rattle.test_units.specs.Samples.{IsBeginner, IsLearner, IsBuilder, IsPairHolder, three};
+ghost use Rattle.test_units.specs.Samples.{IsBeginner, IsLearner, IsBuilder, IsPairHolder, WroteLast, three};
 
 use clause_cell::{head_word, lit_word};
 use io_edge::Sink;
@@ -65,7 +62,7 @@ pub fn learn<H: Wait, S: Sink>(
     ensures same { (ring.new.ring ≡ ring.old.ring) × (ring.new.pass.me.0.opening ≡ ring.old.pass.me.0.opening) }
 {
     let mut turn = take_turn(rt, alloc, table, &mut ring.pass, ring.ring);
-    match turn.add(&ring.pass, alloc, Kind::Learn, lits, 1) {
+    match turn.add(&ring.pass, alloc, Kind::Learn, lits, 1, &[]) {
         Ok(cell) => {
             let number = turn.last();
             give_turn(table, &mut ring.pass, turn);
@@ -172,7 +169,7 @@ pub fn learn_unit<H: Wait, S: Sink>(
     ensures same { (ring.new.ring ≡ ring.old.ring) × (ring.new.pass.me.0.opening ≡ ring.old.pass.me.0.opening) }
 {
     let mut turn = take_turn(rt, alloc, table, &mut ring.pass, ring.ring);
-    match turn.add_unit(&ring.pass, Kind::Learn, lit) {
+    match turn.add_unit(&ring.pass, alloc, Kind::Learn, lit, &[]) {
         Ok(number) => {
             give_turn(table, &mut ring.pass, turn);
             Some(number)
@@ -184,20 +181,22 @@ pub fn learn_unit<H: Wait, S: Sink>(
     }
 }
 
-/// Takes the turn, lists the unit if no unit is listed, and gives the turn back. False if one is listed, which it reads.
+/// Takes the turn, lists the unit with its number if no unit is listed, and gives the turn back. False if one is listed, which
+/// it reads.
 pub fn list_first<H: Wait, S: Sink>(
     rt: &H,
     alloc: Global,
     table: &Shared<Book<S>>,
     ring: &mut Ring<Book<S>>,
     lit: Lit,
+    number: u64,
 ) -> bool
     requires ring { IsAlone table.now ring.old.pass ring.old.ring }
-    requires told { list_any (same_set (lit ∷ [])) (added (map (λ w. w.entry) (only ring.old.pass.me.0).core.wrote)) ≡ true }
+    requires told { WroteLast ring.old.ring lit number (only ring.old.pass.me.0).core }
     requires none { (only ring.old.pass.me.0).core.seen ≡ [] }
     requires on { InVars table.now.layout (lit ∷ []) }
     ensures ring { IsAlone table.now ring.new.pass ring.new.ring }
-    ensures listed { MatchBool result (ListedOne lit ring.old.pass.me.0 ring.new.pass.me.0) (ReadOne ring.old.pass.me.0 ring.new.pass.me.0) }
+    ensures listed { MatchBool result (ListedOne lit number ring.old.pass.me.0 ring.new.pass.me.0) (ReadOne ring.old.pass.me.0 ring.new.pass.me.0) }
     ensures same { ring.new.ring ≡ ring.old.ring }
 {
     let turn = take_turn(rt, alloc, table, &mut ring.pass, ring.ring);
@@ -207,7 +206,7 @@ pub fn list_first<H: Wait, S: Sink>(
             false
         }
         None => {
-            publish(table, &mut ring.pass, lit, 0);
+            publish(table, &mut ring.pass, lit, number, 0);
             give_turn(table, &mut ring.pass, turn);
             true
         }
@@ -249,6 +248,7 @@ pub fn begin_over_three<S: Sink>(
     requires ring { ring < first.old.me.0.opening.rings }
     requires cell { 0 < times_at cell.address first.old.me.0.opening.starts }
     requires starts { (a : ℕ) × (first.old.me.0.opening.starts ≡ starts_at a three) }
+    requires plain { first.old.me.0.opening.hinted ≡ false }
     requires vars { 2 ≤ table.now.layout.vars }
     ensures first { IsFirst table.now first.new (ring + 1) }
     ensures same { (first.new.me.0.opening ≡ first.old.me.0.opening) × (first.new.me.0.parts ≡ first.old.me.0.parts) }

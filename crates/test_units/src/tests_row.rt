@@ -36,7 +36,7 @@ fn play_zero<H: Wait, S: Sink>(
     table: &Shared<Book<S>>,
     ring: &mut Ring<Book<S>>,
     hand: &AtomicU64,
-) -> (u32, Option<Lit>, Option<Lit>)
+) -> (u32, Option<(Lit, u64)>, Option<(Lit, u64)>)
     requires { IsBeginner table.now ring.old.pass ring.old.ring }
     ensures ring { IsAlone table.now ring.new.pass ring.new.ring }
     ensures same { ring.new.ring ≡ ring.old.ring }
@@ -55,11 +55,11 @@ fn play_zero<H: Wait, S: Sink>(
     if !wait_for(rt, hand, 4) {
         return (3, None, None);
     }
-    let Some(lit) = next_unit(table, &mut ring.pass, 0) else {
+    let Some(unit) = next_unit(table, &mut ring.pass, 0) else {
         return (4, None, None);
     };
     let none = next_unit(table, &mut ring.pass, 1);
-    (4, Some(lit), none)
+    (4, Some(unit), none)
 }
 
 /// Learns the same clause, later the unit 2, and lists it in its next turn. Tells how many steps were done.
@@ -89,17 +89,17 @@ fn play_one<H: Wait, S: Sink>(
     if !draw_ticket(table, ring) {
         return 3;
     }
-    let Some(_) = learn_unit(rt, alloc, table, ring, two) else {
+    let Some(number) = learn_unit(rt, alloc, table, ring, two) else {
         return 3;
     };
-    if !list_first(rt, alloc, table, ring, two) {
+    if !list_first(rt, alloc, table, ring, two, number) {
         return 4;
     }
     5
 }
 
 /// A ring that took part in the row, how many of its steps were done, and what it read of the listed units.
-pub(crate) type Played<S> = (Ring<Book<S>>, u32, Option<Lit>, Option<Lit>);
+pub(crate) type Played<S> = (Ring<Book<S>>, u32, Option<(Lit, u64)>, Option<(Lit, u64)>);
 
 fn run_zero<H: Wait, S: Sink>(
     rt: &H,
@@ -112,11 +112,11 @@ fn run_zero<H: Wait, S: Sink>(
     ensures ring { IsAlone table.now result.0.pass ring.ring × (result.0.ring ≡ ring.ring) }
 {
     let mut ring = ring;
-    let (steps, lit, none) = play_zero(rt, alloc, table, &mut ring, hand);
+    let (steps, unit, none) = play_zero(rt, alloc, table, &mut ring, hand);
     if steps < 4 {
         hand.store(9, Ordering::SeqCst);
     }
-    (ring, steps, lit, none)
+    (ring, steps, unit, none)
 }
 
 fn run_one<H: Wait, S: Sink>(

@@ -79,13 +79,13 @@ fn two_rings_hand_over(rt: HostRuntime) -> Result<(), Fail> {
     let zero = begin_over_three(&table, &mut first, 0, cell);
     let one = begin_over_three(&table, &mut first, 1, cell);
     let (zero, one) = play(&rt, rt.alloc(), &table, zero, one);
-    let (zero, steps, lit, none) = zero;
+    let (zero, steps, unit, none) = zero;
     let (one, others, _, _) = one;
     gather(&table, &mut first, one);
     gather(&table, &mut first, zero);
     let book = close(table, first);
     assert_eq!(rt; (steps, others), (4, 5));
-    assert_eq!(rt; (lit, none), (Some(Lit::new(2, false)), None));
+    assert_eq!(rt; (unit, none), (Some((Lit::new(2, false), 6)), None));
     let (end, sink, lines) = book.finish();
     assert_eq!(rt; end, Ok(()));
     assert!(rt; sink.bytes() == b"1 2 0\n1 2 0\nd 1 2 0\n2 0\n".as_slice());

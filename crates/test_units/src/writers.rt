@@ -2,6 +2,7 @@
 ghost use Rattle.std.specs.Prelude.{◌≡◌, ◌≤◌, ◌<◌, ◌+◌, ◌-◌, ◌^◌, All, IfOk, OnOk, fold, length, max, min, sum_by, ℕ, slice_index_or, false, [], MatchOption, nat_lt};
 ghost use Rattle.rup_model.specs.Basics.{one_if};
 ghost use Rattle.io_edge.specs.Paths.{IsEmptyWhereTold};
+ghost use Rattle.sat_words.specs.declared.line.ProofFormat.TheVariants.{Text};
 ghost use Rattle.share_rule.specs.declared.Layout.{Layout};
 ghost use Rattle.share_rule.specs.Books.{HasLog};
 ghost use Rattle.log_book.specs.Books.{account_of, origin_of, IsLogOf};
@@ -32,7 +33,7 @@ use test_tables::{Ring, begin, gather};
 pub fn make_three(alloc: Global) -> Result<Problem, Fail>
     ensures start { IfOk result (λ p. p.start.items ≡ three) }
     ensures vars { IfOk result (λ p. p.formula.vars ≡ 3) }
-    ensures units { IfOk result (λ p. p.units.items ≡ []) }
+    ensures units { IfOk result (λ p. p.listed.items ≡ []) }
 {
     let one = Lit::new(1, false);
     let two = Lit::new(2, false);
@@ -53,6 +54,7 @@ pub fn new_book<S: Sink + Drop>(
     requires { IsEmptyWhereTold (S.written sink) }
     ensures log { IfOk result (λ b. (l : Layout) → HasLog account_of (IsLogOf S.written S.flushed S.target S.faults) b (origin_of S.written S.flushed S.target S.faults b) l formula.now.clauses []) }
     ensures whole { IfOk result (λ b. b.log.lines.spent ≡ false) }
+    ensures plain { IfOk result (λ b. b.log.lines.format ≡ Text) }
 {
     let clauses = formula.clauses().len() as u64;
     if clauses > 1 << 32 {
@@ -82,7 +84,7 @@ fn write_unit<H: Wait, S: Sink>(
     ensures same { ring.new.ring ≡ ring.old.ring }
 {
     let mut turn = take_turn(rt, alloc, table, &mut ring.pass, ring.ring);
-    match turn.add_unit(&ring.pass, Kind::UnitLine, lit) {
+    match turn.add_unit(&ring.pass, alloc, Kind::UnitLine, lit, &[]) {
         Ok(number) => {
             give_turn(table, &mut ring.pass, turn);
             Some(number)
@@ -154,6 +156,7 @@ pub fn begin_writers<S: Sink>(
     requires first { IsFirst table.now first.old 0 × (first.old.me.0.opening.rings ≡ rings) × (first.old.me.0.parts ≡ []) }
     requires cell { 0 < times_at cell.address first.old.me.0.opening.starts }
     requires starts { (a : ℕ) × (first.old.me.0.opening.starts ≡ starts_at a three) }
+    requires plain { first.old.me.0.opening.hinted ≡ false }
     requires vars { 2 ≤ table.now.layout.vars }
     ensures first { OnOk result (IsGathered table.now first.new rings) }
     ensures len { IfOk result (λ v. length v.items ≡ rings) }

@@ -23,7 +23,7 @@ use Rattle.clap.specs.declared.error.kind.ErrorKind.{ErrorKind}
 use Rattle.clap.proofs.CallerLemmas.{default_present, entry_by_id, same_rules_by_id}
 use Rattle.clap.proofs.SimpleLemmas.{is_false, is_nil, plain_fields}
 use Rattle.clap.proofs.WalkLemmas.{both}
-use Rattle.top_call.specs.Words.{Command, HasNumber, HasThreads, HasLimit, HasRound, HasWords, HasSlots, HasSeed, HasWalk, HasMade, command_in, command_of, unless_both, unless_refused, solver_app, solver_rules, conflicts_rule, round_rule, threads_rule, words_rule, slots_rule, seed_rule, walk_rule, make_rule}
+use Rattle.top_call.specs.Words.{Command, HasNumber, HasThreads, HasLimit, HasRound, HasWords, HasSlots, HasSeed, HasWalk, HasMade, command_in, command_of, unless_clashing, unless_refused, solver_app, solver_rules, conflicts_rule, round_rule, threads_rule, words_rule, slots_rule, seed_rule, walk_rule, make_rule}
 
 pub solver_simple : is_simple solver_app ≡ true
 solver_simple = refl
@@ -32,7 +32,7 @@ pub solver_free : is_simple_and_free solver_app ≡ true
 solver_free = refl
 
 -- words that `clap` takes ask for what the matches say, unless they ask for both
-pub lawful_words : (words : List (List ℕ)) → fault_of solver_app words ≡ [] → command_of words ≡ unless_both (command_in (matches_of solver_app words))
+pub lawful_words : (words : List (List ℕ)) → fault_of solver_app words ≡ [] → command_of words ≡ unless_clashing (command_in (matches_of solver_app words))
 unfolding command_of
 lawful_words words none = ap (λ (kinds : Kinds). unless_refused kinds (command_in (matches_of solver_app words))) none
 
@@ -96,7 +96,7 @@ alone_at id (x ∷ rules) (suc place) e (suc k) r lt h = ap suc (alone_at id rul
 
 -- how many rules there are
 abbrev rules_count : ℕ
-rules_count = 14
+rules_count = 15
 
 all_simple : (k : ℕ) (r : Rule) → k < rules_count → ((slice_index_or solver_rules k r).is_simple ≡ true) × ((slice_index_or solver_rules k r).is_free ≡ true)
 all_simple k r lt = (each_passes (λ x. x.is_simple) solver_rules refl k r lt, each_passes (λ x. x.is_free) solver_rules refl k r lt)
@@ -247,8 +247,8 @@ seed_option = record { within = omega arith; at = λ d. refl; alone = alone_at (
 walk_option : IsOption 6 0 (10 ^ 9) (codes "walk") walk_rule
 walk_option = record { within = omega arith; at = λ d. refl; alone = alone_at (codes "walk") solver_rules 6 refl; named = λ e. cc e; other = walk_alone; id_is = refl; simple = refl; sets = refl; parser = refl; one = refl }
 
-make_option : IsOption 12 0 (2 ^ 63 - 1) (codes "make") make_rule
-make_option = record { within = omega arith; at = λ d. refl; alone = alone_at (codes "make") solver_rules 12 refl; named = λ e. cc e; other = make_alone; id_is = refl; simple = refl; sets = refl; parser = refl; one = refl }
+make_option : IsOption 13 0 (2 ^ 63 - 1) (codes "make") make_rule
+make_option = record { within = omega arith; at = λ d. refl; alone = alone_at (codes "make") solver_rules 13 refl; named = λ e. cc e; other = make_alone; id_is = refl; simple = refl; sets = refl; parser = refl; one = refl }
 
 module _ (c : ClapCommand) (m : ArgMatches) (app : app_of c ≡ solver_app) (p : IsParsedFrom c m) where
   rules_are : map rule_of (args_of c) ≡ solver_rules
@@ -373,4 +373,4 @@ module _ (c : ClapCommand) (m : ArgMatches) (app : app_of c ≡ solver_app) (p :
 
   -- they have one for `--make`, or none
   pub made_of : HasMade m
-  made_of = number_or_none 12 0 (2 ^ 63 - 1) (codes "make") make_rule make_option
+  made_of = number_or_none 13 0 (2 ^ 63 - 1) (codes "make") make_rule make_option

@@ -1,5 +1,5 @@
 -- The journal with no entry, and what a writer holds of it.
-use Rattle.std.proofs.Common.{◌≡◌, ◌<◌, ◌^◌, ℕ, zero, suc, List, [], ◌∷◌, true, false, refl, sym, subst, arith, Some, None}
+use Rattle.std.proofs.Common.{◌≡◌, ◌<◌, ◌^◌, ℕ, zero, suc, Bool, List, [], ◌∷◌, true, false, refl, sym, subst, arith, Some, None}
 use Rattle.std.specs.Prelude.{Result, slice_index_or}
 use Rattle.std.specs.declared.option.Option.{Option}
 use Rattle.io_edge.specs.Bytes.{IsFront, WasFlushed}
@@ -18,8 +18,8 @@ use Rattle.log_book.proofs.Ending.{flush_closes}
 use Rattle.portfolio_run.specs.Journaled.{IsJournal, IsCutShort}
 use Rattle.top_call.specs.Journaled.{HoldsLog}
 
-pub empty_journal : (rings : ℕ) (clauses : List (List Literal)) → IsJournal rings clauses []
-empty_journal rings clauses = record { fits = tt; accepted = tt; last = tt; spelled = λ k x lt. absurd (omega arith); of_rounds = λ k x lt. absurd (omega arith); plain = λ k x lt. absurd (omega arith); begins = tt; each_new = tt; spaced = tt }
+pub empty_journal : (rings : ℕ) (with_hints : Bool) (clauses : List (List Literal)) → IsJournal rings with_hints clauses []
+empty_journal rings with_hints clauses = record { fits = tt; accepted = tt; last = tt; spelled = λ k x lt. absurd (omega arith); hinted = λ q. tt; of_rounds = λ k x lt. absurd (omega arith); plain = λ k x lt. absurd (omega arith); begins = tt; each_new = tt; spaced = tt }
 
 -- if a writer's bytes are known and there are none, it holds those of no line
 pub holds_nothing : (written : Option (List ℕ)) → IsEmptyWhereTold written → HoldsText written []

@@ -2,6 +2,7 @@
 use Rattle.std.proofs.Common.{◌≡◌, ◌≢◌, ◌⊎◌, ℕ, List, [], Bool, Some, None, refl, sym, ◌∙◌, inl, inr, subst, ⊎_elim, arith, rules, ap}
 use Rattle.std.specs.Prelude.{IfSome, IsSome, IsSomeAnd}
 use Rattle.std.specs.declared.option.Option.{Option}
+use Rattle.sat_words.specs.Formats.{has_hints}
 use Rattle.sat_words.specs.FormulaData.{FormulaData}
 use Rattle.sat_words.specs.declared.shared.NoRoom.{NoRoom}
 use Rattle.rup_model.specs.declared.journal.Entry.{Entry}
@@ -237,8 +238,8 @@ module _ (F : FormulaData) (J : List Entry) (tally : Tally) (call : Call) where
   started : {kind : Option ℕ} {lack : NoRoom} → IsStarted kind lack F J tally (run_of call) → HasJournal F J call
   started s = record { stands = s.journal_stands; of_input = inr (given s.given); searched = s.searched; log = if_there (HoldsLog (search_in call).format F.clauses J s.searched) call.proof s.log }
 
-  nothing_stands : J ≡ [] → IsJournal (search_in call).threads F.clauses J
-  nothing_stands none = subst (IsJournal (search_in call).threads F.clauses) (sym none) (empty_journal (search_in call).threads F.clauses)
+  nothing_stands : J ≡ [] → IsJournal (search_in call).threads (has_hints (search_in call).format) F.clauses J
+  nothing_stands none = subst (IsJournal (search_in call).threads (has_hints (search_in call).format) F.clauses) (sym none) (empty_journal (search_in call).threads (has_hints (search_in call).format) F.clauses)
 
   unread : IsUnread F J (run_of call) → HasJournal F J call
   unread u = record { stands = nothing_stands u.nothing; of_input = inl u.nothing; searched = 0; log = if_there (HoldsLog (search_in call).format F.clauses J 0) call.proof u.log }

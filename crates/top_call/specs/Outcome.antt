@@ -3,6 +3,7 @@ use Rattle.std.specs.Prelude.{◌≡◌, ◌⊎◌, ℕ, List, [], true, is_some
 use Rattle.std.specs.declared.option.Option.{Option}
 use Rattle.io_edge.specs.Causes.{Rose}
 use Rattle.io_edge.specs.Paths.{IsEmptyWhereTold}
+use Rattle.sat_words.specs.Formats.{has_hints}
 use Rattle.sat_words.specs.FormulaData.{FormulaData}
 use Rattle.sat_words.specs.declared.shared.NoRoom.{NoRoom}
 use Rattle.sat_words.specs.declared.shared.TheConstants.{STOP_ROOM, STOP_PROOF, STOP_MEMORY}
@@ -65,7 +66,7 @@ pub record IsBroken (formula : FormulaData) (journal : List Entry) (tally : Tall
 pub record IsStarted (kind : Option ℕ) (lack : NoRoom) (formula : FormulaData) (journal : List Entry) (tally : Tally) (run : Run) : Type 0 where
   pub given : WasGiven run.plan.make run.text formula
   pub source : IsStill run.source
-  pub journal_stands : IsJournal run.plan.search.threads formula.clauses journal
+  pub journal_stands : IsJournal run.plan.search.threads (has_hints run.plan.search.format) formula.clauses journal
   pub ruled : IsRuled formula (schedule_of run.plan.search) journal
   pub counts : List Counts
   pub held : IsHeld run.plan.search.threads run.plan.search.slots run.plan.search.round run.plan.search.conflicts formula.clauses journal counts

@@ -1,5 +1,5 @@
 -- How a formula is decided, by the arguments.
-use Rattle.std.specs.Prelude.{◌≡◌, ℕ, ◌≤◌, ◌^◌, Bool, false, if◌then◌else◌, Some, None, IfSome}
+use Rattle.std.specs.Prelude.{◌≡◌, ℕ, ◌≤◌, ◌^◌, Bool, true, false, if◌then◌else◌, Some, None, IfSome}
 use Rattle.std.specs.declared.option.Option.{Option}
 use Rattle.sat_words.specs.Formats.{has_hints}
 use Rattle.portfolio_run.specs.declared.plan.Plan.{Plan as SearchPlan}
@@ -37,9 +37,8 @@ plan_of None = record { search = no_search; make = None }
 plan_of (Some command) = record { search = search_of command; make = command.make }
 
 -- what is asked of a search can be done: 1 to 16 rings, which together may learn at most 10^12 lemmas, and 1 to 10^12 in a round if
--- that has a bound, over no more words than can be numbered, with 1 to 16 slots for each two rings and class, and a proof without
--- hints
-pub record IsInRange (plan : SearchPlan) : Type 0 where
+-- that has a bound, over no more words than can be numbered, with 1 to 16 slots for each two rings and class
+pub record HasRanges (plan : SearchPlan) : Type 0 where
   pub some_rings : 1 ≤ plan.threads
   pub few_rings : plan.threads ≤ 16
   pub few_lemmas : plan.conflicts ≤ 10 ^ 12
@@ -48,4 +47,8 @@ pub record IsInRange (plan : SearchPlan) : Type 0 where
   pub few_words : plan.words ≤ 2 ^ 31
   pub some_slots : 1 ≤ plan.slots
   pub few_slots : plan.slots ≤ 16
-  pub plain : has_hints plan.format ≡ false
+
+-- and variables are added only if the proof has no hints
+pub record IsInRange (plan : SearchPlan) : Type 0 where
+  pub ranges : HasRanges plan
+  pub plain : plan.additions ≡ true → has_hints plan.format ≡ false

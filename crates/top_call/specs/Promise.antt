@@ -3,6 +3,7 @@
 use Rattle.std.specs.Prelude.{◌≡◌, ℕ, List, map, Bool, true, Some, None, IfSome, IsSomeAnd}
 use Rattle.std.specs.declared.option.Option.{Option}
 use Rattle.sat_words.specs.Truth.{formula_true}
+use Rattle.sat_words.specs.Formats.{has_hints}
 use Rattle.sat_words.specs.FormulaData.{FormulaData}
 use Rattle.rup_model.specs.NumberedLines.{NumberedLine, line_of}
 use Rattle.rup_model.specs.Log.{Refutes}
@@ -12,6 +13,7 @@ use Rattle.dimacs_read.specs.Input.{Reads}
 use Rattle.io_edge.specs.Paths.{PathMap}
 use Rattle.top_call.specs.Words.{command_of, file_path, make_number, proof_format}
 use Rattle.top_call.specs.Run.{text_in}
+use Rattle.top_call.specs.ShownLines.{AreShown, numbered_clauses}
 
 -- the text, unless a formula is made: then none is read
 abbrev pub unless_made : Option ℕ → Option (List ℕ) → Option (List ℕ)
@@ -30,13 +32,15 @@ pub record HasModelOf (input : List ℕ) (model : List Bool) : Type 0 where
   pub holds : formula_true model formula.clauses ≡ true
 
 -- the text spells a formula in DIMACS CNF that no assignment makes true. The bytes of the proof, if they are known, are a DRAT
--- refutation of it in this format: each line is valid where it stands, and the last one adds the empty clause.
+-- refutation of it in this format: each line is valid where it stands, and the last one adds the empty clause. If the format has hints,
+-- those of each line show that its clause follows.
 pub record HasProofOf (format : ProofFormat) (input : List ℕ) (proof : Option (List ℕ)) : Type 0 where
   pub formula : FormulaData
   pub spelled : Reads input formula
   pub no_model : (model : List Bool) → formula_true model formula.clauses ≡ true → ⊥
   pub lines : List NumberedLine
   pub refutes : Refutes formula.clauses (map line_of lines)
+  pub shown : has_hints format ≡ true → AreShown (numbered_clauses formula.clauses) lines
   pub written : IfSome proof (λ bytes. bytes ≡ proof_bytes format lines)
 
 -- if the text that the words ask to read is known: status 10 comes only with a model, in the report, of the formula that it spells,

@@ -2,6 +2,7 @@
 -- answer.
 use Rattle.std.specs.Prelude.{◌≡◌, ◌≢◌, ◌⊎◌, ℕ, List, [], length, sum, Bool, Some, None, IfSome, IsSome}
 use Rattle.std.specs.declared.option.Option.{Option}
+use Rattle.sat_words.specs.Formats.{has_hints}
 use Rattle.sat_words.specs.FormulaData.{FormulaData}
 use Rattle.rup_model.specs.declared.journal.Entry.{Entry}
 use Rattle.io_edge.specs.Causes.{Rose}
@@ -89,7 +90,7 @@ pub record RanOut (formula : FormulaData) (journal : List Entry) (tally : Tally)
 -- one journal stands, of as many rings as are asked for, of the formula that was read or made, or empty. The proof, if there is
 -- one, holds it in the format that is asked for and was flushed last; it had failed `searched` times when the search was over.
 pub record HasJournal (formula : FormulaData) (journal : List Entry) (call : Call) : Type 0 where
-  pub stands : IsJournal (search_in call).threads formula.clauses journal
+  pub stands : IsJournal (search_in call).threads (has_hints (search_in call).format) formula.clauses journal
   pub of_input : (journal ≡ []) ⊎ WasGiven (make_number (command_of call.words)) (text_of call) formula
   pub searched : ℕ
   pub log : IfSome call.proof (HoldsLog (search_in call).format formula.clauses journal searched)

@@ -1,12 +1,12 @@
 -- The command line, as `clap` reads it: the options that the program has, and what the arguments ask for.
-use Rattle.std.specs.Prelude.{◌≡◌, ◌⊎◌, ℕ, ◌^◌, ◌-◌, Bool, false, true, ◌&&◌, if◌then◌else◌, List, [], ◌∷◌, Some, None, is_some, option_map, option_copied, codes}
+use Rattle.std.specs.Prelude.{◌≡◌, ◌⊎◌, ℕ, ◌^◌, ◌-◌, Bool, false, true, ◌&&◌, ◌||◌, if◌then◌else◌, List, [], ◌∷◌, Some, None, is_some, option_map, option_copied, codes}
 use Rattle.std.specs.declared.option.Option.{Option}
 use Rattle.std.specs.Str.{bytes_eq}
 use Rattle.std.specs.Str.Parse.{digits_value, without_leading_plus}
 use Rattle.clap.specs.Words.{App, Kinds, Row, Rule, fault_of, first_of, matches_of, one_of, found_of, one_text, IsUnsignedIn, new_app, new_rule, with_rule}
 use Rattle.clap.specs.Simple.{on_top}
 use Rattle.sat_words.specs.declared.line.ProofFormat.{ProofFormat}
-use Rattle.sat_words.specs.declared.line.ProofFormat.TheVariants.{Text, Binary}
+use Rattle.sat_words.specs.declared.line.ProofFormat.TheVariants.{Text, Binary, Lrat}
 use Rattle.top_call.specs.declared.words.Command.{Command as Asked}
 use Rattle.clap.specs.declared.parser.matches.ArgMatches.{ArgMatches}
 use Rattle.clap.specs.declared.builder.action.ArgAction.TheVariants.{Set, SetTrue}
@@ -82,6 +82,10 @@ proof_rule = record (new_rule (codes "proof")) { long = Some (codes "proof") }
 abbrev pub binary_rule : Rule
 binary_rule = record (new_rule (codes "binary")) { long = Some (codes "binary"); action = Some SetTrue }
 
+-- `--lrat`
+abbrev pub lrat_rule : Rule
+lrat_rule = record (new_rule (codes "lrat")) { long = Some (codes "lrat"); action = Some SetTrue }
+
 -- `--no-simplify`
 abbrev pub no_simplify_rule : Rule
 no_simplify_rule = record (new_rule (codes "no-simplify")) { long = Some (codes "no-simplify"); action = Some SetTrue }
@@ -117,7 +121,7 @@ with_rules app (rule ∷ rules) = with_rules (with_rule app rule) rules
 
 -- the options of the program, in their order
 abbrev pub solver_rules : List Rule
-solver_rules = conflicts_rule ∷ round_rule ∷ threads_rule ∷ words_rule ∷ slots_rule ∷ seed_rule ∷ walk_rule ∷ proof_rule ∷ binary_rule ∷ no_simplify_rule ∷ add_rule ∷ check_rule ∷ make_rule ∷ file_rule ∷ []
+solver_rules = conflicts_rule ∷ round_rule ∷ threads_rule ∷ words_rule ∷ slots_rule ∷ seed_rule ∷ walk_rule ∷ proof_rule ∷ binary_rule ∷ lrat_rule ∷ no_simplify_rule ∷ add_rule ∷ check_rule ∷ make_rule ∷ file_rule ∷ []
 
 -- the program's command
 abbrev pub solver_app : App
@@ -147,6 +151,8 @@ pub record Command : Type 0 where
   pub proof : Option (List ℕ)
   -- whether the proof is written in binary
   pub binary : Bool
+  -- whether the proof has hints
+  pub lrat : Bool
   -- whether the log is checked
   pub check : Bool
   -- the number of the formula that is made in place of an input, if one is
@@ -168,6 +174,7 @@ asked_by asked = record {
   add = asked.add;
   proof = option_copied asked.proof;
   binary = asked.binary;
+  lrat = asked.lrat;
   check = asked.check;
   make = asked.make;
   file = option_copied asked.file;
@@ -201,22 +208,31 @@ command_in rows = record {
   add = flag_in (first_of (codes "add") rows);
   proof = first_of (codes "proof") rows;
   binary = flag_in (first_of (codes "binary") rows);
+  lrat = flag_in (first_of (codes "lrat") rows);
   check = flag_in (first_of (codes "check") rows);
   make = option_map number_of (one_of (codes "make") rows);
   file = first_of (codes "file") rows;
 }
 
--- the command, unless it asks for a formula that is made and has a file to read one from
-abbrev pub unless_both : Command → Option Command
-unless_both command = if is_some command.make && is_some command.file then None else Some command
+-- a formula is made, and there is a file to read one from
+abbrev pub has_two_formulas : Command → Bool
+has_two_formulas command = is_some command.make && is_some command.file
+
+-- the proof is to have hints, and also to be in binary or to have lines for which there are none
+abbrev pub has_other_proof : Command → Bool
+has_other_proof command = command.lrat && (command.add || command.binary)
+
+-- the command, unless it asks for two things that exclude each other
+abbrev pub unless_clashing : Command → Option Command
+unless_clashing command = if has_two_formulas command || has_other_proof command then None else Some command
 
 -- the command, unless `clap` refuses the arguments with an error of some kind
 abbrev pub unless_refused : Kinds → Command → Option Command
-unless_refused [] command = unless_both command
+unless_refused [] command = unless_clashing command
 unless_refused (kind ∷ kinds) command = None
 
--- what the arguments ask for; none if `clap` refuses them for another cause than want of memory, or if `--make` stands
--- with FILE
+-- what the arguments ask for; none if `clap` refuses them for another cause than want of memory, if `--make` stands with FILE, or
+-- `--lrat` with `--add` or `--binary`
 unfoldable pub command_of : List (List ℕ) → Option Command
 command_of words = unless_refused (fault_of solver_app words) (command_in (matches_of solver_app words))
 
@@ -225,10 +241,10 @@ abbrev pub proof_path : Option Command → Option (List ℕ)
 proof_path None = None
 proof_path (Some command) = command.proof
 
--- how the lines of the proof are spelled: as text, unless it is asked for in binary
+-- how the lines of the proof are spelled: in DRAT as text, unless it is asked for with hints or in binary
 abbrev pub proof_format : Option Command → ProofFormat
 proof_format None = Text
-proof_format (Some command) = if command.binary then Binary else Text
+proof_format (Some command) = if command.lrat then Lrat else if command.binary then Binary else Text
 
 -- the path that is given for the input
 abbrev pub file_path : Option Command → Option (List ℕ)

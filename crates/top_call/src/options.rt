@@ -1,7 +1,7 @@
 // The options of the command line, each by its rule.
 ghost use Rattle.std.specs.Prelude.{◌≡◌, false};
 ghost use Rattle.clap.specs.Words.{rule_of};
-ghost use Rattle.top_call.specs.Words.{conflicts_rule, round_rule, threads_rule, words_rule, slots_rule, seed_rule, walk_rule, proof_rule, binary_rule, no_simplify_rule, add_rule, check_rule, make_rule, file_rule};
+ghost use Rattle.top_call.specs.Words.{conflicts_rule, round_rule, threads_rule, words_rule, slots_rule, seed_rule, walk_rule, proof_rule, binary_rule, lrat_rule, no_simplify_rule, add_rule, check_rule, make_rule, file_rule};
 
 use clap::builder::ValueParser;
 use clap::{Arg, ArgAction};
@@ -123,6 +123,15 @@ pub(crate) fn binary_arg<'a>(alloc: Global) -> Arg<'a>
 {
     Arg::new(alloc, "binary")
         .long("binary")
+        .action(ArgAction::SetTrue)
+}
+
+pub(crate) fn lrat_arg<'a>(alloc: Global) -> Arg<'a>
+    ensures rule { rule_of result ≡ lrat_rule }
+    ensures local { result.global ≡ false }
+{
+    Arg::new(alloc, "lrat")
+        .long("lrat")
         .action(ArgAction::SetTrue)
 }
 

@@ -1,7 +1,7 @@
 // How a formula is decided.
 ghost use Rattle.std.specs.Prelude.{◌≡◌};
 ghost use Rattle.std.specs.Prelude.{if◌then◌else◌};
-ghost use Rattle.sat_words.specs.declared.line.ProofFormat.TheVariants.{Text, Binary};
+ghost use Rattle.sat_words.specs.declared.line.ProofFormat.TheVariants.{Text, Binary, Lrat};
 ghost use Rattle.top_call.specs.Planned.{rounds_of};
 
 use sat_words::ProofFormat;
@@ -26,10 +26,12 @@ pub fn rounds_of(no_simplify: bool) -> u32
 }
 
 /// How the lines of the proof are spelled.
-pub fn format_of(binary: bool) -> ProofFormat
-    ensures { result ≡ (if binary then Binary else Text) }
+pub fn format_of(lrat: bool, binary: bool) -> ProofFormat
+    ensures { result ≡ (if lrat then Lrat else if binary then Binary else Text) }
 {
-    if binary {
+    if lrat {
+        ProofFormat::Lrat
+    } else if binary {
         ProofFormat::Binary
     } else {
         ProofFormat::Text

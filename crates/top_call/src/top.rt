@@ -215,7 +215,7 @@ fn plan_in(command: &Command<'_>) -> CallPlan
         walk: command.walk,
         rounds: rounds_of(command.no_simplify),
         additions: command.add,
-        format: format_of(command.binary),
+        format: format_of(command.lrat, command.binary),
         keep_lines: command.check,
     };
     CallPlan {

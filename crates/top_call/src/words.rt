@@ -3,12 +3,12 @@ ghost use Rattle.std.specs.Prelude.{◌≡◌, ◌≤◌, ◌^◌, ◌↔◌, fa
 ghost use Rattle.clap.specs.Words.{app_of, found_of, rows_of};
 ghost use Rattle.clap.specs.declared.error.kind.ErrorKind.TheVariants.{OutOfMemory};
 ghost use Rattle.top_call.specs.Ends.{IsWordsEnd};
-ghost use Rattle.top_call.specs.Planned.{IsInRange, search_of};
-ghost use Rattle.top_call.specs.Words.{HasThreads, HasLimit, HasRound, HasWords, HasSlots, HasSeed, HasWalk, HasMade, asked_by, command_in, command_of, unless_both, solver_app};
+ghost use Rattle.top_call.specs.Planned.{HasRanges, IsInRange, search_of};
+ghost use Rattle.top_call.specs.Words.{HasThreads, HasLimit, HasRound, HasWords, HasSlots, HasSeed, HasWalk, HasMade, asked_by, command_in, command_of, has_other_proof, has_two_formulas, unless_clashing, solver_app};
 
 use crate::options::{
-    add_arg, binary_arg, check_arg, conflicts_arg, file_arg, make_arg, no_simplify_arg, proof_arg,
-    round_arg, seed_arg, slots_arg, threads_arg, walk_arg, words_arg,
+    add_arg, binary_arg, check_arg, conflicts_arg, file_arg, lrat_arg, make_arg, no_simplify_arg,
+    proof_arg, round_arg, seed_arg, slots_arg, threads_arg, walk_arg, words_arg,
 };
 use crate::report::CallEnd;
 use clap::ArgMatches;
@@ -40,6 +40,8 @@ pub struct Command<'a> {
     pub proof: Option<&'a str>,
     /// Whether the proof is written in binary.
     pub binary: bool,
+    /// Whether the proof has hints.
+    pub lrat: bool,
     /// Whether the log is checked.
     pub check: bool,
     /// The number of the formula that is made in place of an input, if one is.
@@ -65,6 +67,7 @@ fn solver<'a>(alloc: Global) -> Result<clap::Command<'a>, AllocError>
         .arg(walk_arg(alloc))?
         .arg(proof_arg(alloc))?
         .arg(binary_arg(alloc))?
+        .arg(lrat_arg(alloc))?
         .arg(no_simplify_arg(alloc))?
         .arg(add_arg(alloc))?
         .arg(check_arg(alloc))?
@@ -173,6 +176,16 @@ fn binary_in(matches: &ArgMatches<'_>) -> bool
     }
 }
 
+/// Whether the proof has hints.
+fn lrat_in(matches: &ArgMatches<'_>) -> bool
+    ensures { result ≡ (command_in (rows_of (found_of matches.now))).lrat }
+{
+    match matches.get_str("lrat") {
+        Some(value) => value == "true",
+        None => false,
+    }
+}
+
 /// Whether only units are propagated, and nothing else is simplified.
 fn no_simplify_in(matches: &ArgMatches<'_>) -> bool
     ensures { result ≡ (command_in (rows_of (found_of matches.now))).no_simplify }
@@ -225,7 +238,7 @@ fn command_in<'a>(matches: &ArgMatches<'a>) -> Command<'a>
     requires walk { HasWalk matches.now }
     requires made { HasMade matches.now }
     ensures asks { command_in (rows_of (found_of matches.now)) ≡ asked_by result }
-    ensures ranges { IsInRange (search_of (asked_by result)) }
+    ensures ranges { HasRanges (search_of (asked_by result)) }
 {
     Command {
         threads: threads_in(matches),
@@ -239,6 +252,7 @@ fn command_in<'a>(matches: &ArgMatches<'a>) -> Command<'a>
         add: add_in(matches),
         proof: matches.get_str("proof"),
         binary: binary_in(matches),
+        lrat: lrat_in(matches),
         check: check_in(matches),
         make: make_in(matches),
         file: matches.get_str("file"),
@@ -255,21 +269,35 @@ fn end_of_kind(kind: ErrorKind) -> CallEnd
     }
 }
 
-/// A formula is made or read from a file, and not both.
-fn unless_both(command: Command<'_>) -> Result<Command<'_>, CallEnd>
-    ensures asks { IfOk result (λ taken. unless_both (asked_by command.entry) ≡ Some (asked_by taken)) }
-    ensures ranges { IsInRange (search_of (asked_by command.entry)) → IfOk result (λ taken. IsInRange (search_of (asked_by taken))) }
-    ensures usage { IfErr result (λ end. unless_both (asked_by command.entry) ≡ None) }
+/// Whether a formula is made, and there is a file to read one from.
+fn has_two_formulas(command: &Command<'_>) -> bool
+    ensures { result ≡ has_two_formulas (asked_by command.now) }
+{
+    command.make.is_some() && command.file.is_some()
+}
+
+/// Whether the proof is to have hints, and also to be in binary or to have lines for which there are none.
+fn has_other_proof(command: &Command<'_>) -> bool
+    ensures { result ≡ has_other_proof (asked_by command.now) }
+{
+    command.lrat && (command.add || command.binary)
+}
+
+/// The command, unless it asks for two things that exclude each other.
+fn unless_clashing(command: Command<'_>) -> Result<Command<'_>, CallEnd>
+    ensures asks { IfOk result (λ taken. unless_clashing (asked_by command.entry) ≡ Some (asked_by taken)) }
+    ensures ranges { HasRanges (search_of (asked_by command.entry)) → IfOk result (λ taken. IsInRange (search_of (asked_by taken))) }
+    ensures usage { IfErr result (λ end. unless_clashing (asked_by command.entry) ≡ None) }
     ensures ends { IfErr result (λ end. end ≡ CallEnd.Usage) }
 {
-    if command.make.is_some() && command.file.is_some() {
+    if has_two_formulas(&command) || has_other_proof(&command) {
         return Err(CallEnd::Usage);
     }
     Ok(command)
 }
 
-/// Reads the arguments, without the program's name. They are refused exactly if `clap` refuses them, or `--make` stands with
-/// FILE.
+/// Reads the arguments, without the program's name. They are refused exactly if `clap` refuses them, `--make` stands with FILE, or
+/// `--lrat` with `--add` or `--binary`.
 pub fn parse<'a>(alloc: Global, words: &'a [String]) -> Result<Command<'a>, CallEnd>
     ensures asks { IfOk result (λ command. command_of (map string_bytes words.entry.now) ≡ Some (asked_by command)) }
     ensures ranges { IfOk result (λ command. IsInRange (search_of (asked_by command))) }
@@ -281,7 +309,7 @@ pub fn parse<'a>(alloc: Global, words: &'a [String]) -> Result<Command<'a>, Call
         Err(_) => return Err(CallEnd::Memory),
     };
     match command.try_get_matches_from(words) {
-        Ok(matches) => unless_both(command_in(&matches)),
+        Ok(matches) => unless_clashing(command_in(&matches)),
         Err(error) => Err(end_of_kind(error.kind())),
     }
 }

@@ -1,1 +1,3 @@
 mod Codes
+pub mod Numbered
+mod Seeing

@@ -6,7 +6,7 @@ use Rattle.sat_words.specs.Literal.{Literal, opposite}
 use Rattle.sat_words.specs.Clause.{has, includes, distinct_lits}
 use Rattle.rup_model.specs.Rounds.{Rounds}
 use Rattle.rup_model.specs.Rup.{conflicts}
-use Rattle.rup_model.proofs.Lists.{In, In_has, has_In, In_all}
+use Rattle.rup_model.proofs.Lists.{In, In_has, has_In, In_all, In_append_left}
 use Rattle.ring_port.specs.PortState.{PortState, lits_at}
 use Rattle.ring_trail.specs.TrailData.{TrailData, IsTrail}
 use Rattle.ring_trail.specs.Closed.{IsClosedClause, TrueWithin}
@@ -89,6 +89,10 @@ Sub-distinct xs (y ∷ ys) s d = by s (has ys y) (distinct_lits ys) refl refl d 
         let r = again q.0 q.2 k in
         let a = distinct q.0 q.2 h in
         subst (λ (zs : List Literal). distinct_lits zs ≡ true) (sym q.1) (rw (a, r) refl)
+
+-- what is kept is left
+pub kept_in : (G : List (List Literal)) (kept rest : List Literal) (x : Literal) → In x kept → In x (walk_from G kept rest)
+kept_in G kept rest x h = let w = walk_parts G kept rest in subst (λ (zs : List Literal). In x zs) (sym w.is) (In_append_left kept w.more x h)
 
 pub left_part : (G : List (List Literal)) (c : List Literal) → includes c (left_of G c) ≡ true
 left_part G c =

@@ -13,6 +13,7 @@ ghost use Rattle.vivify.specs.Walking.{IsNoReason};
 ghost use Rattle.vivify.specs.Outcome.{IsVivified, WasCutShort};
 
 use crate::walk::literals_left;
+use analyze::Analysis;
 use ring_port::{Port, PortStop};
 use ring_trail::Trail;
 use sat_words::{Cref, Lit};
@@ -41,6 +42,7 @@ pub fn vivify<P: Port>(
     port: &mut P,
     watches: &mut Watches,
     trail: &mut Trail,
+    analysis: &mut Analysis,
     c: Cref,
 ) -> Result<Vivified, PortStop>
     requires level { trail.old.level ≡ 0 }
@@ -53,6 +55,8 @@ pub fn vivify<P: Port>(
     requires free { IsNoReason (P.state port.old) trail.old.steps c.address }
     requires usable { is_usable (P.state port.old).refused ≡ true }
     requires apart { IsNotTaken (P.state port.old) c.address }
+    requires analysis { analysis.old.vars ≡ trail.old.vars }
+    ensures analysis { analysis.new.vars ≡ analysis.old.vars }
     ensures trail { OnOk result (trail.new ≡ trail.old) }
     ensures vivified { IfOk result (IsVivified (P.state port.old) (P.state port.new) watches.old watches.new trail.old.steps c) }
     ensures never_empty { IfOk result (λ left. left ≢ Vivified.Empty) }
@@ -68,7 +72,7 @@ pub fn vivify<P: Port>(
 {
     let _lawful = trail.decision_level();
     let head = port.head(c);
-    let Ok(left) = literals_left(alloc, port, watches, trail, c) else {
+    let Ok(left) = literals_left(alloc, port, watches, trail, analysis, c) else {
         return Err(PortStop::Memory);
     };
     let lits = left.as_slice();
@@ -79,13 +83,13 @@ pub fn vivify<P: Port>(
     match lits {
         [] => Ok(Vivified::Empty),
         [lit] => {
-            port.unit(*lit)?;
+            port.unit(*lit, analysis.hints())?;
             port.drop_clause(c)?;
             Ok(Vivified::Unit(*lit))
         }
         _ => {
             let glue = shorter_glue(head.glue, lits.len());
-            let shorter = port.derive(lits, glue)?;
+            let shorter = port.derive(lits, glue, analysis.hints())?;
             match watches.attach(port, trail, shorter) {
                 Ok(()) => {}
                 Err(_) => return Err(PortStop::Memory),

@@ -68,7 +68,7 @@ among_has steps test p lt e =
     In_has (map (λ (s : TrailStep). s.lit) (filter test steps)) (lit_at steps p)
     (In_map (λ (s : TrailStep). s.lit) (filter test steps) (step_at steps p) (In_filter test steps (step_at steps p) (In_get_or steps p no_step lt) e))
 
-decision_has : (steps : List TrailStep) (p : ℕ) → p < length steps → IsDecision steps p → has (decisions_of steps) (lit_at steps p) ≡ true
+pub decision_has : (steps : List TrailStep) (p : ℕ) → p < length steps → IsDecision steps p → has (decisions_of steps) (lit_at steps p) ≡ true
 decision_has steps p lt d =
     among_has steps (λ s. is_none s.reason && nat_lt 0 s.level) p lt
     (and_from _ _ (ap (λ (o : Option Cref). is_none o) d.none) (lt-ltb _ _ d.above))

@@ -24,15 +24,15 @@ pub struct LogEnd {
 }
 
 impl<L: LineOut> Work<L> {
-    /// A work that goes on after a journal of the formula: with clauses that are alive there, under their numbers, with units,
-    /// and with the stack of the work before. Clauses that take no part may be left out. The lines go to the output after
+    /// A work that goes on after a journal of the formula: with clauses that are alive there, under their numbers, with units, whose
+    /// clauses are among them, and with the stack of the work before. Clauses that take no part may be left out. The lines go to the output after
     /// those of the journal. Refused for memory it gives the line output back.
     pub fn again(
         alloc: Global,
         formula: &Formula,
         vars: u32,
         clauses: Vec<(u64, Clause)>,
-        units: Vec<Lit>,
+        units: Vec<(Lit, u64)>,
         stack: Stack,
         end: LogEnd,
         output: L,

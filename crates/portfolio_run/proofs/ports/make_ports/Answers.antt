@@ -46,6 +46,14 @@ make_port-requires-clause-granted g c =
     let b = placed_next c.args.table.now first.me.0 (home_of first) c.args.plan.now c.loop-pass.ring c.loop-pass.made.items c.loop-pass.rest.items (into_iter_items c.loop-pass.pass-iterator) (into_iter_items c.next.new.self) c.in-Some.pass at.0 c.in-Some.ensures.steps.0 none at.5 in
     b.ring_is ∙ ap (λ (o : CoreOpening). new_part o c.loop-pass.ring ∷ []) (sym b.same.opening)
 
+pub make_port-requires-clause-hinted : goal.make_port-requires-clause-hinted
+make_port-requires-clause-hinted g c =
+    let at = c.loop-pass.invariant in
+    let first = c.args.first.now in
+    let none : length c.loop-pass.rest.items ≡ 0 = sym c.loop-pass.rest.ok.0 ∙ eqb-true _ _ (sym c.is_empty.ensures ∙ c.if-is_empty.true) in
+    let b = placed_next c.args.table.now first.me.0 (home_of first) c.args.plan.now c.loop-pass.ring c.loop-pass.made.items c.loop-pass.rest.items (into_iter_items c.loop-pass.pass-iterator) (into_iter_items c.next.new.self) c.in-Some.pass at.0 c.in-Some.ensures.steps.0 none at.5 in
+    ap (λ (o : CoreOpening). o.hinted) b.same.opening ∙ c.requires.hinted
+
 pub make_port-requires-clause-start : goal.make_port-requires-clause-start
 make_port-requires-clause-start g c =
     let at = c.loop-pass.invariant in

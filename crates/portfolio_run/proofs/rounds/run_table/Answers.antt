@@ -8,11 +8,14 @@ use Rattle.portfolio_run.specs.Held.{no_counts}
 use Rattle.portfolio_run.specs.Reached.{HasReached}
 use Rattle.portfolio_run.specs.Tables.{HasSettled}
 use Rattle.portfolio_run.proofs.Settling.{has_settled, gathered, settled_reached, settled_all, settled_small, settled_many, settled_tally}
-use Rattle.portfolio_run.proofs.Tabling.{first_rights}
+use Rattle.portfolio_run.proofs.Tabling.{first_rights, first_hinted}
 use Rattle.portfolio_run.proofs.rounds.run_table.Goals as goal
 
 pub search-answer-requires-clause-first : goal.search-answer-requires-clause-first
 search-answer-requires-clause-first g c κs within = let o = c.requires.1.1.1.1.1.1.1.1.1.1.1.1.0 in first_rights c.args.opened.0 c.args.opened.1 _ _ _ o.pass o.me
+
+pub search-answer-requires-clause-hinted : goal.search-answer-requires-clause-hinted
+search-answer-requires-clause-hinted g c κs within = let o = c.requires.1.1.1.1.1.1.1.1.1.1.1.1.0 in first_hinted c.args.opened.1 _ _ _ o.me
 
 pub add_counts-requires-clause-small : goal.add_counts-requires-clause-small
 add_counts-requires-clause-small g c = λ ring d lt.

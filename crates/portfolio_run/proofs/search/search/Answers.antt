@@ -1,4 +1,5 @@
 use Rattle.std.proofs.Common.{◌++◌, List, ◌∙◌, ap, sym, refl, inl, inr}
+use Rattle.share_core.specs.declared.part.CoreOpening.{CoreOpening}
 use Rattle.share_rule.specs.declared.view.RingPart.{RingPart}
 use Rattle.ring_pass.specs.RingState.{home_of}
 use Rattle.portfolio_run.specs.Seats.{all_parts}
@@ -6,6 +7,9 @@ use Rattle.portfolio_run.proofs.Gathering.{all_idle, ran_to_same}
 use Rattle.portfolio_run.proofs.Making.{home_same}
 use Rattle.portfolio_run.proofs.Rights.{same_both}
 use Rattle.portfolio_run.proofs.search.search.Goals as goal
+
+pub make_ports-requires-clause-hinted : goal.make_ports-requires-clause-hinted
+make_ports-requires-clause-hinted g c = ap (λ (o : CoreOpening). o.hinted) c.hand_out.ensures.same.opening ∙ c.requires.hinted
 
 pub returns-in-Ok-make_ports : goal.returns-in-Ok-make_ports
 returns-in-Ok-make_ports g c =

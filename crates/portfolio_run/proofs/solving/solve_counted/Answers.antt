@@ -10,7 +10,7 @@ use Rattle.portfolio_run.proofs.Ruling.{refuted_book, stopped_book, paused_first
 use Rattle.portfolio_run.proofs.solving.solve_counted.Goals as goal
 
 pub simplify-outcome-requires-clause-plain : goal.simplify-outcome-requires-clause-plain
-simplify-outcome-requires-clause-plain g c added = let q = c.requires.1.1.1.1.1.1 in ap (λ (s : LineState). has_hints s.format) c.in-Ok.ensures.told ∙ q.1.1.1.1.1.1.1.1.1.1
+simplify-outcome-requires-clause-plain g c added = let q = c.requires.1.1.1.1.1.1 in ap (λ (s : LineState). has_hints s.format) c.in-Ok.ensures.told ∙ q.1.1.1.1.1.1.1.1.1.1 added
 
 pub solve_left-requires : goal.solve_left-requires
 solve_left-requires g c κs within =

@@ -10,7 +10,7 @@ give_turn-requires-clause-turn g c = on_both c.add-added.result (λ x k. k.turn)
 pub returns-in-Ok-clause-wrote : goal.returns-in-Ok-clause-wrote
 returns-in-Ok-clause-wrote g c =
     let e = c.take_turn-turn.ensures in
-    wrote_clause c.give_turn.new.pass.me.0 c.args.kind c.args.lits.now c.args.glue c.in-Ok.cell.address c.last-number.result c.requires.ring.0.0 e.turn e.pass.0.3 (ok_is _ c.add-added.result c.in-Ok.cell c.in-Ok.is c.add-added.ensures.added) c.give_turn.ensures.turn c.last-number.ensures
+    wrote_clause c.give_turn.new.pass.me.0 c.args.kind c.args.lits.now c.args.hints.now c.args.glue c.in-Ok.cell.address c.last-number.result c.requires.ring.0.0 e.turn e.pass.0.3 (ok_is _ c.add-added.result c.in-Ok.cell c.in-Ok.is c.add-added.ensures.added) c.give_turn.ensures.turn c.last-number.ensures
 
 pub returns-in-Err-clause-refused : goal.returns-in-Err-clause-refused
 returns-in-Err-clause-refused g c =
@@ -26,4 +26,4 @@ add-added-requires-clause-note g c =
     let v : View = c.args.pass.now.me.0 in
     let has = turn_taken c.requires.ring.0.0 e.turn in
     let knows = journal_known v _ e.turn.taken.book.journal _ has e.pass.0.3 in
-    may_add_next v _ c.take_turn-turn.result e.turn.taken.book.journal _ c.args.kind c.args.lits.now has e.turn.taken.noted (may_add v e.turn.taken.book.journal c.args.kind c.args.lits.now knows c.requires.may) c.requires.long c.requires.follows c.requires.on
+    may_add_next v _ c.take_turn-turn.result e.turn.taken.book.journal _ c.args.kind c.args.lits.now c.args.hints.now has e.turn.taken.noted (may_add v e.turn.taken.book.journal c.args.kind c.args.lits.now knows c.requires.may) c.requires.long c.requires.follows c.requires.on

@@ -1,6 +1,7 @@
 use Rattle.std.proofs.Common.{◌∙◌, vec_capacity}
 use Rattle.share_rule.specs.Turns.{take_part}
 use Rattle.share_rule.specs.Views.{only}
+use Rattle.ring_pass.proofs.NumbersSeen.{listed_numbers}
 use Rattle.ring_pass.proofs.ListsHere.{may_list, turn_still, listed_all, units_listed, turn_seen}
 use Rattle.ring_pass.proofs.Stays.{one_is}
 use Rattle.ring_pass.proofs.TurnsHere.{turn_taken, failed_taken, alone_taken}
@@ -27,7 +28,7 @@ see_all-requires-clause-arrived g c =
 pub list_new-requires-clause-unit : goal.list_new-requires-clause-unit
 list_new-requires-clause-unit g c =
     let e = c.take_turn-turn.ensures in
-    may_list c.args.pass.now.me.0 c.take_turn-turn.new.pass.me.0 c.see_all.new.pass.me.0 e.turn.taken.book.journal _ c.args.lit c.see_all.new.seen.items c.args.arrived.now.items c.see_all.new.arrived.items (turn_taken c.requires.ring.0.0 e.turn) e.pass.0.3 c.see_all.ensures.saw c.requires.written c.requires.on
+    may_list c.args.pass.now.me.0 c.take_turn-turn.new.pass.me.0 c.see_all.new.pass.me.0 e.turn.taken.book.journal _ c.args.lit c.args.number c.see_all.new.seen.items c.args.arrived.now.items c.see_all.new.arrived.items (turn_taken c.requires.ring.0.0 e.turn) e.pass.0.3 c.see_all.ensures.saw c.requires.written c.requires.on
 
 pub list_new-requires-clause-seen : goal.list_new-requires-clause-seen
 list_new-requires-clause-seen g c = (c.see_all.ensures.units.all, c.see_all.ensures.units.seen_room_is)
@@ -53,3 +54,9 @@ pub returns-clause-units : goal.returns-clause-units
 returns-clause-units g c =
     units_listed c.see_all.new.pass.me.0 c.list_new.new.pass.me.0 c.give_turn.new.pass.me.0 c.args.lit c.see_all.new.seen.items c.list_new.new.seen.items (vec_capacity c.see_all.new.seen) (vec_capacity c.see_all.new.arrived) (vec_capacity c.list_new.new.seen) _ _ _ c.see_all.ensures.units c.list_new.ensures.listed c.list_new.ensures.room c.give_turn.ensures.turn
     c.take_turn-turn.ensures.turn.taken.noted
+
+pub returns-clause-numbers : goal.returns-clause-numbers
+returns-clause-numbers g c =
+    let e = c.take_turn-turn.ensures in
+    listed_numbers c.args.pass.now.me.0 c.take_turn-turn.new.pass.me.0 c.see_all.new.pass.me.0 c.list_new.new.pass.me.0 c.give_turn.new.pass.me.0 e.turn.taken.book.journal _ c.args.lit c.list_new.new.seen.items c.args.numbers.now.items c.see_all.new.numbers.items c.list_new.new.numbers.items _ _ _
+    (turn_taken c.requires.ring.0.0 e.turn) c.see_all.ensures.numbers c.list_new.ensures.listed c.list_new.ensures.numbers c.give_turn.ensures.turn e.turn.taken.noted

@@ -8,6 +8,7 @@ loop-init g c = record {
   pass = c.requires.pass.0;
   same = (refl, refl);
   saw = news_none c.args.pass.now.me.0 c.args.seen.now.items c.args.arrived.now.items (vec_capacity c.args.seen.now) (vec_capacity c.args.arrived.now) c.requires.pass.1 c.requires.units c.requires.arrived.0 c.requires.arrived.1;
+  numbers = λ h. h;
   units = c.requires.units;
 }
 
@@ -23,5 +24,6 @@ loop-preserved g c =
       pass = e.pass.0;
       same = (e.pass.1.0 ∙ inv.same.0, e.pass.1.1 ∙ inv.same.1);
       saw = news_more c.args.pass.now.me.0 c.loop.pass.me.0 c.see_next.new.pass.me.0 c.loop.seen.items c.see_next.new.seen.items c.args.arrived.now.items c.loop.arrived.items c.see_next.new.arrived.items c.in-Some.field-0 inv.saw e.pass.0.3 saw;
+      numbers = λ h. e.numbers (inv.numbers h);
       units = units_sees c.loop.pass.me.0 c.see_next.new.pass.me.0 c.in-Some.field-0 c.loop.seen.items c.see_next.new.seen.items c.loop.arrived.items c.see_next.new.arrived.items (vec_capacity c.loop.seen) (vec_capacity c.loop.arrived) (vec_capacity c.see_next.new.seen) (vec_capacity c.see_next.new.arrived) (news_one inv.saw) saw e.room.0 e.room.1 inv.units;
     }

@@ -5,7 +5,7 @@ use Rattle.ring_pass.proofs.turns.write_empty.Goals as goal
 pub add_empty-added-requires-clause-note : goal.add_empty-added-requires-clause-note
 add_empty-added-requires-clause-note g c =
     let e = c.take_turn-turn.ensures in
-    may_next c.args.pass.now.me.0 _ c.take_turn-turn.result e.turn.taken.book.journal _ Empty (turn_taken c.requires.ring.0.0 e.turn) e.turn.taken.noted c.requires.follows
+    may_next c.args.pass.now.me.0 _ c.take_turn-turn.result e.turn.taken.book.journal _ (Empty c.args.hints.now) (turn_taken c.requires.ring.0.0 e.turn) e.turn.taken.noted c.requires.follows
 
 pub give_turn-requires-clause-turn : goal.give_turn-requires-clause-turn
 give_turn-requires-clause-turn g c = on_either c.add_empty-added.result (λ k. k.turn) (λ e k. k.turn) c.add_empty-added.ensures.added c.add_empty-added.ensures.stopped
@@ -13,7 +13,7 @@ give_turn-requires-clause-turn g c = on_either c.add_empty-added.result (λ k. k
 pub returns-clause-wrote : goal.returns-clause-wrote
 returns-clause-wrote g c =
     let e = c.take_turn-turn.ensures in
-    ok_map c.add_empty-added.result (λ k. wrote_one c.give_turn.new.pass.me.0 Empty c.requires.ring.0.0 e.turn e.pass.0.3 k c.give_turn.ensures.turn) c.add_empty-added.ensures.added
+    ok_map c.add_empty-added.result (λ k. wrote_one c.give_turn.new.pass.me.0 (Empty c.args.hints.now) c.requires.ring.0.0 e.turn e.pass.0.3 k c.give_turn.ensures.turn) c.add_empty-added.ensures.added
 
 pub returns-clause-refused : goal.returns-clause-refused
 returns-clause-refused g c =

@@ -6,3 +6,6 @@ returns-clause-accepted c = λ o s h. h.sound.accepted
 
 pub returns-clause-refutes : goal.returns-clause-refutes
 returns-clause-refutes c = ended_refutes
+
+pub returns-clause-hinted : goal.returns-clause-hinted
+returns-clause-hinted c = λ o s h. h.hints

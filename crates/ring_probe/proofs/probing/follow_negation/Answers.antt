@@ -1,10 +1,10 @@
-use Rattle.std.proofs.Common.{◌≡◌, ◌∙◌, ◌∷◌, [], List, None, true, subst, sym, ap, refl, inl, inr, arith}
+use Rattle.std.proofs.Common.{◌≡◌, ◌∙◌, ◌∷◌, [], List, None, IsSome, true, subst, sym, ap, refl, inl, inr, arith}
 use Rattle.std.proofs.lemmas.Result.{err_from_is_err_and}
 use Rattle.sat_words.specs.Literal.{Literal, IsOn, opposite}
 use Rattle.sat_words.specs.declared.shared.Cref.{Cref}
 use Rattle.rup_model.specs.Rup.{rup}
 use Rattle.rup_model.specs.declared.journal.Kind.TheVariants.{UnitLine}
-use Rattle.ring_port.specs.PortState.{PortState, IsPort, lits_at, known}
+use Rattle.ring_port.specs.PortState.{PortState, IsPort, clause_at, held_at, lits_at, known}
 use Rattle.ring_port.specs.Port.{is_usable, WroteUnit, EndedLog, Refused}
 use Rattle.ring_port.specs.Log.{StandsOver, KeepsLog}
 use Rattle.ring_trail.specs.TrailData.{TrailData, HasGrown, assigned}
@@ -13,10 +13,12 @@ use Rattle.watch_prop.specs.Watched.{Watched}
 use Rattle.watch_prop.specs.Propagation.{HasReasons, IsQuiet, IsConflict}
 use Rattle.watch_prop.specs.declared.propagated.Propagated.TheVariants.{Quiet, Conflict}
 use Rattle.ring_probe.specs.Outcome.{FailedAlone}
-use Rattle.ring_probe.proofs.Kept.{came_to, watched_same, reasons_same, ended_held, ended_seen, refused_held, refused_seen}
+use Rattle.analyze.specs.Tracing.{CanTraceClause}
+use Rattle.ring_probe.proofs.Traced.{traces_low}
+use Rattle.ring_probe.proofs.Kept.{came_to, conflict_held, watched_same, reasons_same, ended_held, ended_seen, refused_held, refused_seen}
 use Rattle.ring_probe.proofs.Negated.{IsFollowed, held_then, watched_then, reasons_then, level_then, failed_alone, failed_both, refuted}
 use Rattle.ring_probe.proofs.probing.follow_negation.Given as Given
-use Rattle.ring_probe.proofs.probing.follow_negation.Goals.{In_ok-unit, After-decision_level-lawful, In-Quiet, In-Conflict}
+use Rattle.ring_probe.proofs.probing.follow_negation.Goals.{In_ok-unit, After-decision_level-lawful, In-Quiet, In-Conflict, In_ok-empty-in-Conflict}
 use Rattle.ring_probe.proofs.probing.follow_negation.Goals as goal
 
 pub unit-requires-clause-on : goal.unit-requires-clause-on
@@ -188,21 +190,35 @@ returns-in-Quiet-clause-port g c = subst IsPort (sym c.propagate-followed.ensure
 
 -- A clause is false
 
-conflict_now : (g : Given.Over) (c : In-Conflict g) → IsConflict c.propagate-followed.new.self (lits_at (g.P.Port.state c.unit.new.self)) c.propagate-followed.new.trail c.in-Conflict.field-0
-conflict_now g c = came_to (g.P.Port.state c.unit.new.self) c.propagate-followed.new.self c.propagate-followed.new.trail c.propagate-followed.result c.in-Ok.propagated (Conflict c.in-Conflict.field-0) c.in-Ok.is c.in-Conflict.is c.propagate-followed.ensures.propagated
+conflict_now : (g : Given.Over) (c : In-Conflict g) → IsConflict c.propagate-followed.new.self (lits_at (g.P.Port.state c.unit.new.self)) c.propagate-followed.new.trail c.in-Conflict.conflict
+conflict_now g c = came_to (g.P.Port.state c.unit.new.self) c.propagate-followed.new.self c.propagate-followed.new.trail c.propagate-followed.result c.in-Ok.propagated (Conflict c.in-Conflict.conflict) c.in-Ok.is c.in-Conflict.is c.propagate-followed.ensures.propagated
+
+pub trace_clause-requires-clause-held : goal.trace_clause-requires-clause-held
+trace_clause-requires-clause-held g c =
+    subst (λ (x : PortState). IsSome (held_at x c.in-Conflict.conflict.address)) (sym c.propagate-followed.ensures.same)
+    (conflict_held (g.P.Port.state c.unit.new.self) c.propagate-followed.new.self c.propagate-followed.new.trail c.in-Conflict.conflict c.propagate-followed.ensures.watched (conflict_now g (goal.at.trace_clause-requires-clause-held g c).In-Conflict))
+
+pub trace_clause-requires-clause-can : goal.trace_clause-requires-clause-can
+trace_clause-requires-clause-can g c =
+    let m = g.P.Port.state c.unit.new.self in
+    let u = c.propagate-followed.new.trail in
+    let a = c.in-Conflict.conflict.address in
+    let at = goal.at.trace_clause-requires-clause-can g c in
+    subst (λ (x : PortState). CanTraceClause (clause_at x) u.steps [] (lits_at x a)) (sym c.propagate-followed.ensures.same)
+    (traces_low (clause_at m) u (lits_at m a) c.decision_level-lawful.ensures.trail (level_now g at.After-decision_level-lawful) (conflict_now g at.In-Conflict).false_all)
 
 pub empty-requires-clause-usable : goal.empty-requires-clause-usable
 empty-requires-clause-usable g c =
     let w = wrote g (goal.at.empty-requires-clause-usable g c).In_ok-unit in
-    ap (λ (x : PortState). is_usable x.refused) (c.propagate-followed.ensures.same ∙ w.state) ∙ c.requires.usable
+    ap (λ (x : PortState). is_usable x.refused) (c.trace_clause.ensures.same ∙ c.propagate-followed.ensures.same ∙ w.state) ∙ c.requires.usable
 
 pub empty-requires-clause-rup : goal.empty-requires-clause-rup
 empty-requires-clause-rup g c =
     let s = g.P.Port.state c.args.port.now in
     let m = g.P.Port.state c.unit.new.self in
     let at = goal.at.empty-requires-clause-rup g c in
-    subst (λ (x : PortState). rup (known x) [] ≡ true) (sym c.propagate-followed.ensures.same)
-    (refuted s m c.args.watches.now c.propagate-followed.new.self c.args.trail.now c.propagate-followed.new.trail c.args.literal (followed g at.After-decision_level-lawful) c.in-Conflict.field-0 (conflict_now g at.In-Conflict))
+    subst (λ (x : PortState). rup (known x) [] ≡ true) (sym (c.trace_clause.ensures.same ∙ c.propagate-followed.ensures.same))
+    (refuted s m c.args.watches.now c.propagate-followed.new.self c.args.trail.now c.propagate-followed.new.trail c.args.literal (followed g at.After-decision_level-lawful) c.in-Conflict.conflict (conflict_now g at.In-Conflict))
 
 pub returns-in_ok-empty-in-Conflict-clause-probed : goal.returns-in_ok-empty-in-Conflict-clause-probed
 returns-in_ok-empty-in-Conflict-clause-probed g c =
@@ -210,33 +226,37 @@ returns-in_ok-empty-in-Conflict-clause-probed g c =
     let m = g.P.Port.state c.unit.new.self in
     let n = g.P.Port.state c.empty.new.self in
     let at = goal.at.returns-in_ok-empty-in-Conflict-clause-probed g c in
-    failed_both s m c.args.watches.now c.propagate-followed.new.self c.args.trail.now c.propagate-followed.new.trail c.args.literal (followed g at.After-decision_level-lawful) n c.in-Conflict.field-0 (conflict_now g at.In-Conflict)
-    (subst (λ (x : PortState). EndedLog x n) c.propagate-followed.ensures.same c.in_ok-empty-in-Conflict.ensures.written)
-    c.unit.ensures.log c.unit.ensures.port (λ o h. c.empty.ensures.log o (subst (StandsOver o) (sym c.propagate-followed.ensures.same) h))
+    failed_both s m c.args.watches.now c.propagate-followed.new.self c.args.trail.now c.propagate-followed.new.trail c.args.literal (followed g at.After-decision_level-lawful) n c.in-Conflict.conflict (conflict_now g at.In-Conflict)
+    (subst (λ (x : PortState). EndedLog x n) (c.trace_clause.ensures.same ∙ c.propagate-followed.ensures.same) c.in_ok-empty-in-Conflict.ensures.written)
+    c.unit.ensures.log c.unit.ensures.port (λ o h. c.empty.ensures.log o (subst (StandsOver o) (sym (c.trace_clause.ensures.same ∙ c.propagate-followed.ensures.same)) h))
+
+-- the empty clause was written where propagation ended
+ended_now : (g : Given.Over) (c : In_ok-empty-in-Conflict g) → EndedLog (g.P.Port.state c.propagate-followed.new.port) (g.P.Port.state c.empty.new.self)
+ended_now g c = subst (λ (x : PortState). EndedLog x (g.P.Port.state c.empty.new.self)) c.trace_clause.ensures.same c.in_ok-empty-in-Conflict.ensures.written
 
 pub returns-in_ok-empty-in-Conflict-clause-watched : goal.returns-in_ok-empty-in-Conflict-clause-watched
 returns-in_ok-empty-in-Conflict-clause-watched g c =
     let p = g.P.Port.state c.propagate-followed.new.port in
     let n = g.P.Port.state c.empty.new.self in
-    watched_same p n c.propagate-followed.new.self c.propagate-followed.new.trail (ended_held p n c.in_ok-empty-in-Conflict.ensures.written) (watched_now g (goal.at.returns-in_ok-empty-in-Conflict-clause-watched g c).After-decision_level-lawful)
+    watched_same p n c.propagate-followed.new.self c.propagate-followed.new.trail (ended_held p n (ended_now g (goal.at.returns-in_ok-empty-in-Conflict-clause-watched g c).In_ok-empty-in-Conflict)) (watched_now g (goal.at.returns-in_ok-empty-in-Conflict-clause-watched g c).After-decision_level-lawful)
 
 pub returns-in_ok-empty-in-Conflict-clause-reasons : goal.returns-in_ok-empty-in-Conflict-clause-reasons
 returns-in_ok-empty-in-Conflict-clause-reasons g c =
     let p = g.P.Port.state c.propagate-followed.new.port in
     let n = g.P.Port.state c.empty.new.self in
-    let written = c.in_ok-empty-in-Conflict.ensures.written in
+    let written = ended_now g (goal.at.returns-in_ok-empty-in-Conflict-clause-reasons g c).In_ok-empty-in-Conflict in
     reasons_same p n (attached c.propagate-followed.new.self) c.propagate-followed.new.trail.steps (ended_held p n written) (ended_seen p n written) (reasons_now g (goal.at.returns-in_ok-empty-in-Conflict-clause-reasons g c).After-decision_level-lawful)
 
 pub returns-in_ok-empty-in-Conflict-clause-held : goal.returns-in_ok-empty-in-Conflict-clause-held
 returns-in_ok-empty-in-Conflict-clause-held g c =
-    ended_held (g.P.Port.state c.propagate-followed.new.port) (g.P.Port.state c.empty.new.self) c.in_ok-empty-in-Conflict.ensures.written
+    ended_held (g.P.Port.state c.propagate-followed.new.port) (g.P.Port.state c.empty.new.self) (ended_now g (goal.at.returns-in_ok-empty-in-Conflict-clause-held g c).In_ok-empty-in-Conflict)
     ∙ held_now g (goal.at.returns-in_ok-empty-in-Conflict-clause-held g c).After-decision_level-lawful
 
 pub returns-in_ok-empty-in-Conflict-clause-level : goal.returns-in_ok-empty-in-Conflict-clause-level
 returns-in_ok-empty-in-Conflict-clause-level g c = level_now g (goal.at.returns-in_ok-empty-in-Conflict-clause-level g c).After-decision_level-lawful
 
 pub returns-in_ok-empty-in-Conflict-clause-log : goal.returns-in_ok-empty-in-Conflict-clause-log
-returns-in_ok-empty-in-Conflict-clause-log g c = λ o h. c.empty.ensures.log o (log_now g (goal.at.returns-in_ok-empty-in-Conflict-clause-log g c).After-decision_level-lawful o h)
+returns-in_ok-empty-in-Conflict-clause-log g c = λ o h. c.empty.ensures.log o (subst (StandsOver o) (sym c.trace_clause.ensures.same) (log_now g (goal.at.returns-in_ok-empty-in-Conflict-clause-log g c).After-decision_level-lawful o h))
 
 pub returns-in_ok-empty-in-Conflict-clause-quiet : goal.returns-in_ok-empty-in-Conflict-clause-quiet
 returns-in_ok-empty-in-Conflict-clause-quiet g c = λ not_empty. absurd (not_empty refl)
@@ -251,10 +271,10 @@ returns-in_err-empty-in-Conflict-clause-stopped g c =
     rw (p.1, p.2) (record {
       middle = g.P.Port.state c.unit.new.self;
       before = inr (wrote g at.In_ok-unit);
-      refused = subst (λ (x : PortState). Refused x n c.in_err-empty-in-Conflict.field-0.0) c.propagate-followed.ensures.same c.in_err-empty-in-Conflict.ensures.written;
+      refused = subst (λ (x : PortState). Refused x n c.in_err-empty-in-Conflict.field-0.0) (c.trace_clause.ensures.same ∙ c.propagate-followed.ensures.same) c.in_err-empty-in-Conflict.ensures.written;
       log = c.unit.ensures.log;
       port = c.unit.ensures.port;
-      log_after = λ o h. c.empty.ensures.log o (subst (StandsOver o) (sym c.propagate-followed.ensures.same) h);
+      log_after = λ o h. c.empty.ensures.log o (subst (StandsOver o) (sym (c.trace_clause.ensures.same ∙ c.propagate-followed.ensures.same)) h);
       cause = inl c.requires.failed;
     })
 
@@ -262,22 +282,23 @@ pub returns-in_err-empty-in-Conflict-clause-watched : goal.returns-in_err-empty-
 returns-in_err-empty-in-Conflict-clause-watched g c =
     let p = g.P.Port.state c.propagate-followed.new.port in
     let n = g.P.Port.state c.empty.new.self in
-    watched_same p n c.propagate-followed.new.self c.propagate-followed.new.trail (refused_held p n _ c.in_err-empty-in-Conflict.ensures.written) (watched_now g (goal.at.returns-in_err-empty-in-Conflict-clause-watched g c).After-decision_level-lawful)
+    watched_same p n c.propagate-followed.new.self c.propagate-followed.new.trail (refused_held p n _ (subst (λ (x : PortState). Refused x n c.in_err-empty-in-Conflict.field-0.0) c.trace_clause.ensures.same c.in_err-empty-in-Conflict.ensures.written)) (watched_now g (goal.at.returns-in_err-empty-in-Conflict-clause-watched g c).After-decision_level-lawful)
 
 pub returns-in_err-empty-in-Conflict-clause-reasons : goal.returns-in_err-empty-in-Conflict-clause-reasons
 returns-in_err-empty-in-Conflict-clause-reasons g c =
     let p = g.P.Port.state c.propagate-followed.new.port in
     let n = g.P.Port.state c.empty.new.self in
-    let written = c.in_err-empty-in-Conflict.ensures.written in
+    let written = subst (λ (x : PortState). Refused x n c.in_err-empty-in-Conflict.field-0.0) c.trace_clause.ensures.same c.in_err-empty-in-Conflict.ensures.written in
     reasons_same p n (attached c.propagate-followed.new.self) c.propagate-followed.new.trail.steps (refused_held p n _ written) (refused_seen p n _ written) (reasons_now g (goal.at.returns-in_err-empty-in-Conflict-clause-reasons g c).After-decision_level-lawful)
 
 pub returns-in_err-empty-in-Conflict-clause-held : goal.returns-in_err-empty-in-Conflict-clause-held
 returns-in_err-empty-in-Conflict-clause-held g c =
-    refused_held (g.P.Port.state c.propagate-followed.new.port) (g.P.Port.state c.empty.new.self) _ c.in_err-empty-in-Conflict.ensures.written
+    refused_held (g.P.Port.state c.propagate-followed.new.port) (g.P.Port.state c.empty.new.self) _
+    (subst (λ (x : PortState). Refused x (g.P.Port.state c.empty.new.self) c.in_err-empty-in-Conflict.field-0.0) c.trace_clause.ensures.same c.in_err-empty-in-Conflict.ensures.written)
     ∙ held_now g (goal.at.returns-in_err-empty-in-Conflict-clause-held g c).After-decision_level-lawful
 
 pub returns-in_err-empty-in-Conflict-clause-level : goal.returns-in_err-empty-in-Conflict-clause-level
 returns-in_err-empty-in-Conflict-clause-level g c = level_now g (goal.at.returns-in_err-empty-in-Conflict-clause-level g c).After-decision_level-lawful
 
 pub returns-in_err-empty-in-Conflict-clause-log : goal.returns-in_err-empty-in-Conflict-clause-log
-returns-in_err-empty-in-Conflict-clause-log g c = λ o h. c.empty.ensures.log o (log_now g (goal.at.returns-in_err-empty-in-Conflict-clause-log g c).After-decision_level-lawful o h)
+returns-in_err-empty-in-Conflict-clause-log g c = λ o h. c.empty.ensures.log o (subst (StandsOver o) (sym c.trace_clause.ensures.same) (log_now g (goal.at.returns-in_err-empty-in-Conflict-clause-log g c).After-decision_level-lawful o h))

@@ -35,11 +35,10 @@ use Rattle.ring_run.specs.Searching.{OnlyWrote}
 use Rattle.ring_run.proofs.Progress.{wrote_by, looked_wrote}
 use Rattle.restart_plan.specs.Plan.{Restarting}
 
-pub write_pending-requires : goal.write_pending-requires
-write_pending-requires g c = record {
-  search = looked_search (g.P.Port.state c.args.port.now) (g.P.Port.state c.stopped.new.self) c.args.ring.now.trail c.args.ring.now.watches c.args.ring.now.written (one_more (g.P.Port.state c.args.port.now).looks) c.requires.search
-      c.in_default.ensures.looked.1 c.stopped.ensures.log c.stopped.ensures.port;
-}
+pub write_pending-requires-clause-search : goal.write_pending-requires-clause-search
+write_pending-requires-clause-search g c =
+    looked_search (g.P.Port.state c.args.port.now) (g.P.Port.state c.stopped.new.self) c.args.ring.now.trail c.args.ring.now.watches c.args.ring.now.written (one_more (g.P.Port.state c.args.port.now).looks) c.requires.search
+    c.in_default.ensures.looked.1 c.stopped.ensures.log c.stopped.ensures.port
 
 pub returns-in-Some-clause-leads : goal.returns-in-Some-clause-leads
 returns-in-Some-clause-leads g c = λ start p.
@@ -83,6 +82,9 @@ returns-in-Err-clause-polls g c =
     let nothing : OffersNothing s w = nothing_then s m w (nothing_looked s m c.stopped.result c.stopped.ensures.looked) c.write_pending.ensures.nothing in
     subst (HasPolled w ring.restarts.made) (sym c.end_refused.ensures)
     (polled_halted w ring.restarts.made _ (refused_halted c.in-Err.stop) (polled_over w ring (polling_same s w old ring nothing c.write_pending.ensures.offers.place c.write_pending.ensures.restarts c.write_pending.ensures.import_due (ap (λ (t : TrailData). t.level) c.write_pending.ensures.trail) c.requires.polling).polled))
+
+pub reduce_vivify_import-requires-clause-analysis : goal.reduce_vivify_import-requires-clause-analysis
+reduce_vivify_import-requires-clause-analysis g c = c.write_pending.ensures.analysis ∙ c.requires.analysis ∙ sym (ap (λ (t : TrailData). t.vars) c.write_pending.ensures.trail)
 
 pub reduce_vivify_import-requires-clause-import : goal.reduce_vivify_import-requires-clause-import
 reduce_vivify_import-requires-clause-import g c =

@@ -1,9 +1,12 @@
-use Rattle.std.proofs.Common.{inl, inr, ◌≡◌, ◌∙◌, ◌++◌, List, ◌≤◌, ◌<◌, ◌+◌, ℕ, ap, sym, subst, arith, refl, length, None, Bool, false, IsSome, Contains}
+use Rattle.std.proofs.Common.{inl, inr, ◌≡◌, ◌∙◌, ◌++◌, List, ◌≤◌, ◌<◌, ◌+◌, ℕ, ap, sym, subst, arith, refl, length, None, Bool, true, false, [], IsSome, Contains}
 use Rattle.std.specs.Prelude.{if◌then◌else◌}
 use Rattle.std.proofs.lemmas.Bool.{false≢true}
-use Rattle.ring_port.specs.PortState.{PortState, Slot, Holding, held_at, one_more}
+use Rattle.ring_port.specs.PortState.{PortState, Slot, Holding, held_at, known, one_more}
 use Rattle.ring_run.specs.Ended.{polls_of, LookedAlong, rounds, import_slots}
 use Rattle.ring_run.specs.Searching.{OffersNothing, GoesOn, IsHeldBy, Stands}
+use Rattle.ring_run.specs.Ending.{EndsAt, WroteEmpty}
+use Rattle.ring_port.specs.Port.{AreHints}
+use Rattle.rup_model.specs.Rup.{rup}
 use Rattle.rup_model.specs.Journal.{learned}
 use Rattle.ring_run.specs.Course.{imports_of}
 use Rattle.ring_run.specs.declared.ring.Ring.{Ring}
@@ -27,9 +30,37 @@ use Rattle.std.specs.declared.option.Option.{Option}
 use Rattle.ring_run.proofs.Rounds.{imports_halted, imports_over, imports_same, imports_count, imports_part, imports_more, slots_same}
 use Rattle.ring_run.proofs.InTime.{in_time_halted, in_time_same, in_time_more}
 
+pub trace_unit-requires-clause-vars : goal.trace_unit-requires-clause-vars
+trace_unit-requires-clause-vars g c = c.take_units.ensures.grown.vars ∙ sym c.requires.analysis
+
+pub trace_unit-requires-clause-level : goal.trace_unit-requires-clause-level
+trace_unit-requires-clause-level g c = c.take_units.ensures.grown.level ∙ c.requires.import.level
+
+pub trace_unit-requires-clause-reasoned : goal.trace_unit-requires-clause-reasoned
+trace_unit-requires-clause-reasoned g c = c.in-Opposed.ensures.taken.reasoned
+
+pub trace_unit-requires-clause-seen : goal.trace_unit-requires-clause-seen
+trace_unit-requires-clause-seen g c = c.in-Opposed.ensures.taken.seen
+
+pub trace_unit-requires-clause-opposed : goal.trace_unit-requires-clause-opposed
+trace_unit-requires-clause-opposed g c = c.in-Opposed.ensures.taken.false_there
+
+pub refute-requires-clause-usable : goal.refute-requires-clause-usable
+refute-requires-clause-usable g c =
+    ap (λ (x : PortState). x.refused) c.trace_unit.ensures.same ∙ c.take_units.ensures.saw.refused ∙ c.requires.import.clauses.refused
+
+pub refute-requires-clause-rup : goal.refute-requires-clause-rup
+refute-requires-clause-rup g c = subst (λ (x : PortState). rup (known x) [] ≡ true) (sym c.trace_unit.ensures.same) c.in-Opposed.ensures.taken.implied
+
+pub refute-requires-clause-hints : goal.refute-requires-clause-hints
+refute-requires-clause-hints g c =
+    subst (λ (ns : List ℕ). AreHints (g.P.Port.state c.trace_unit.new.port) [] ns) (sym c.hints.ensures)
+    (subst (λ (x : PortState). AreHints x [] c.trace_unit.new.self.hints) (sym c.trace_unit.ensures.same) c.trace_unit.ensures.hints)
+
 pub returns-in-Opposed-clause-leads : goal.returns-in-Opposed-clause-leads
 returns-in-Opposed-clause-leads g c = λ start p.
-    c.refute.ensures.ends c.args.ring.now.learned start (c.take_units.ensures.keeps start c.args.ring.now.learned p)
+    (subst (λ (x : PortState). EndsAt x (g.P.Port.state c.refute.new.port) c.refute.result) c.trace_unit.ensures.same c.refute.ensures.ends) c.args.ring.now.learned start
+    (c.take_units.ensures.keeps start c.args.ring.now.learned p)
 
 pub returns-in-Opposed-clause-polls : goal.returns-in-Opposed-clause-polls
 returns-in-Opposed-clause-polls g c =
@@ -37,7 +68,7 @@ returns-in-Opposed-clause-polls g c =
     let m = g.P.Port.state c.take_units.new.port in
     let u = g.P.Port.state c.refute.new.port in
     let ring = c.args.ring.now in
-    let nothing : OffersNothing s u = nothing_then s m u (saw_nothing s m c.take_units.ensures.saw) c.refute.ensures.nothing in
+    let nothing : OffersNothing s u = nothing_then s m u (saw_nothing s m c.take_units.ensures.saw) (subst (λ (x : PortState). OffersNothing x u) c.trace_unit.ensures.same c.refute.ensures.nothing) in
     polled_halted u ring.restarts.made c.refute.result c.refute.ensures.halted (polled_over u ring (polls_same s u (imports_of ring) nothing c.requires.polling.polled))
 
 pub returns-in-Opposed-clause-offering : goal.returns-in-Opposed-clause-offering
@@ -45,7 +76,7 @@ returns-in-Opposed-clause-offering g c = λ p.
     let s = g.P.Port.state c.args.port.now in
     let m = g.P.Port.state c.take_units.new.port in
     let u = g.P.Port.state c.refute.new.port in
-    offering_stays s u c.args.ring.now (record c.args.ring.now { trail = c.take_units.new.trail }) (nothing_then s m u (saw_nothing s m c.take_units.ensures.saw) c.refute.ensures.nothing)
+    offering_stays s u c.args.ring.now (record c.args.ring.now { trail = c.take_units.new.trail }) (nothing_then s m u (saw_nothing s m c.take_units.ensures.saw) (subst (λ (x : PortState). OffersNothing x u) c.trace_unit.ensures.same c.refute.ensures.nothing))
     (record { exported = refl; offered = refl; place = refl }) refl p
 
 pub returns-in-Err-clause-leads : goal.returns-in-Err-clause-leads
@@ -173,7 +204,7 @@ returns-in-Opposed-clause-imports g c = λ start p h.
     let m = g.P.Port.state c.take_units.new.port in
     let u = g.P.Port.state c.refute.new.port in
     let ring = c.args.ring.now in
-    let nothing : OffersNothing s u = nothing_then s m u (saw_nothing s m c.take_units.ensures.saw) c.refute.ensures.nothing in
+    let nothing : OffersNothing s u = nothing_then s m u (saw_nothing s m c.take_units.ensures.saw) (subst (λ (x : PortState). OffersNothing x u) c.trace_unit.ensures.same c.refute.ensures.nothing) in
     imports_halted start u ring.restarts.made c.refute.result c.refute.ensures.halted (imports_over start u ring (imports_same start s u (imports_of ring) nothing h))
 
 pub returns-in-Err-clause-imports : goal.returns-in-Err-clause-imports
@@ -250,7 +281,7 @@ returns-clause-took g c = λ on.
     })
 
 pub returns-in-Opposed-clause-unlooked : goal.returns-in-Opposed-clause-unlooked
-returns-in-Opposed-clause-unlooked g c = c.refute.ensures.looks ∙ c.take_units.ensures.saw.looks
+returns-in-Opposed-clause-unlooked g c = c.refute.ensures.looks ∙ ap (λ (x : PortState). x.looks) c.trace_unit.ensures.same ∙ c.take_units.ensures.saw.looks
 
 pub returns-in-Err-clause-unlooked : goal.returns-in-Err-clause-unlooked
 returns-in-Err-clause-unlooked g c = ap (λ (x : PortState). x.looks) c.take_clauses.ensures.only.state ∙ c.take_units.ensures.saw.looks
@@ -262,7 +293,7 @@ pub returns-in-Opposed-clause-refused : goal.returns-in-Opposed-clause-refused
 returns-in-Opposed-clause-refused g c = c.refute.ensures.refusal
 
 pub returns-in-Opposed-clause-halts : goal.returns-in-Opposed-clause-halts
-returns-in-Opposed-clause-halts g c = record { middle = g.P.Port.state c.take_units.new.port; units = c.take_units.ensures.saw; over = inl c.refute.ensures.empty }
+returns-in-Opposed-clause-halts g c = record { middle = g.P.Port.state c.take_units.new.port; units = c.take_units.ensures.saw; over = inl (subst (λ (x : PortState). WroteEmpty x (g.P.Port.state c.refute.new.port) c.refute.result) c.trace_unit.ensures.same c.refute.ensures.empty) }
 
 pub returns-in-Err-clause-halts : goal.returns-in-Err-clause-halts
 returns-in-Err-clause-halts g c =

@@ -1,6 +1,7 @@
-use Rattle.std.proofs.Common.{◌≡◌, ap, sym, subst, refl, inl, List}
+use Rattle.std.proofs.Common.{◌≡◌, ℕ, [], ap, sym, subst, refl, inl, List}
 use Rattle.sat_words.specs.Literal.{Literal}
 use Rattle.ring_port.specs.PortState.{PortState}
+use Rattle.ring_port.specs.Port.{AreHints}
 use Rattle.ring_decide.specs.DeciderData.{DeciderData}
 use Rattle.ring_run.specs.Searching.{IsAsserting, OffersNothing}
 use Rattle.ring_run.specs.Ending.{EndsAt, WroteEmpty}
@@ -22,6 +23,20 @@ learn_lemma-requires-clause-lemma g c =
     lemma_asserts s c.args.ring.now.trail c.args.ring.now.watches c.args.conflict c.analyze.new.self.lits c.in-Lemma.back c.in-Lemma.glue c.args.ring.now.written c.requires.search c.requires.conflict found.0 found.1 in
     subst (λ (ls : List Literal). IsAsserting (g.P.Port.state c.analyze.new.port) c.args.ring.now.trail ls c.in-Lemma.back) (sym c.lits.ensures)
     (subst (λ (x : PortState). IsAsserting x c.args.ring.now.trail c.analyze.new.self.lits c.in-Lemma.back) (sym c.analyze.ensures.same) asserting)
+
+pub learn_lemma-requires-clause-hints : goal.learn_lemma-requires-clause-hints
+learn_lemma-requires-clause-hints g c =
+    let u = g.P.Port.state c.analyze.new.port in
+    let a = c.analyze.new.self in
+    subst (λ (ns : List ℕ). AreHints u c.lits.result.now ns) (sym c.hints-in-Lemma.ensures)
+    (subst (λ (ls : List Literal). AreHints u ls a.hints) (sym c.lits.ensures) (subst (λ (x : PortState). AreHints x a.lits a.hints) (sym c.analyze.ensures.same) c.analyze.ensures.hints))
+
+pub refute-requires-clause-hints : goal.refute-requires-clause-hints
+refute-requires-clause-hints g c =
+    let u = g.P.Port.state c.analyze.new.port in
+    let a = c.analyze.new.self in
+    subst (λ (ns : List ℕ). AreHints u [] ns) (sym c.hints.ensures)
+    (subst (λ (ls : List Literal). AreHints u ls a.hints) (c.analyze.ensures.none c.in-Empty.is) (subst (λ (x : PortState). AreHints x a.lits a.hints) (sym c.analyze.ensures.same) c.analyze.ensures.hints))
 
 -- what the empty clause leaves
 refuted : (g : Over) (c : After-refute g) → BehindLemma (g.P.Port.state c.args.port.now) (g.P.Port.state c.refute.new.port) c.args.ring.now c.args.ring.now c.args.conflict c.analyze.new.self.lits (course.Finish c.refute.result)

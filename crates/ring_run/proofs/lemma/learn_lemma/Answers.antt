@@ -8,6 +8,7 @@ use Rattle.ring_run.proofs.Asserting.{can_assert}
 use Rattle.ring_run.proofs.Codes.{le_true}
 use Rattle.ring_run.proofs.Drawing.{drawn_asserting}
 use Rattle.ring_run.proofs.Sharing.{shared_held, shared_refused, shared_vars}
+use Rattle.ring_run.proofs.Hinting.{hints_drawn}
 use Rattle.ring_run.proofs.lemma.learn_lemma.Goals as goal
 
 pub share_lemma-requires-clause-ticket : goal.share_lemma-requires-clause-ticket
@@ -26,6 +27,9 @@ share_lemma-requires-clause-clause g c =
 pub share_lemma-requires-clause-rup : goal.share_lemma-requires-clause-rup
 share_lemma-requires-clause-rup g c =
     (drawn_asserting (g.P.Port.state c.args.port.now) (g.P.Port.state c.draw.new.self) c.in-Ticket.ensures.drawn.0 c.draw.ensures.log c.draw.ensures.port c.args.ring.now.trail c.args.lits.now c.args.back c.requires.lemma).implied
+
+pub share_lemma-requires-clause-hints : goal.share_lemma-requires-clause-hints
+share_lemma-requires-clause-hints g c = hints_drawn (g.P.Port.state c.args.port.now) (g.P.Port.state c.draw.new.self) c.args.lits.now c.args.hints.now c.in-Ticket.ensures.drawn.0 c.requires.hints
 
 pub share_lemma-requires-clause-fresh : goal.share_lemma-requires-clause-fresh
 share_lemma-requires-clause-fresh g c =

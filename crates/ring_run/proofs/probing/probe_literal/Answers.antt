@@ -132,8 +132,19 @@ returns-in-Ok-Holds-clause-nothing g c =
     let z : DidNotFail s m (attached ring.watches) ring.trail t lit = subst (IsProbed s m (attached ring.watches) w ring.trail t lit) c.in-Ok-Holds.field-0-is c.in-Ok-Holds.ensures.probed in
     subst (Rattle.ring_run.specs.Searching.OffersNothing s) (sym z.state) (nothing_none s)
 
-pub write_pending-requires : goal.write_pending-requires
-write_pending-requires g c =
+pub write_pending-requires-clause-analysis : goal.write_pending-requires-clause-analysis
+write_pending-requires-clause-analysis g c =
+    let s = g.P.Port.state c.args.port.now in
+    let m = g.P.Port.state c.probe.new.port in
+    let ring = c.args.ring.now in
+    let t = c.probe.new.trail in
+    let w = c.probe.new.watches in
+    let lit = c.args.lit in
+    let z : FailedAlone s m (attached ring.watches) w ring.trail t lit c.in-Ok-Unit.field-0-0 = subst (IsProbed s m (attached ring.watches) w ring.trail t lit) c.in-Ok-Unit.field-0-is c.in-Ok-Unit.ensures.probed in
+    c.probe.ensures.analysis ∙ c.requires.analysis ∙ sym z.after.grown.vars
+
+pub write_pending-requires-clause-search : goal.write_pending-requires-clause-search
+write_pending-requires-clause-search g c =
     let s = g.P.Port.state c.args.port.now in
     let m = g.P.Port.state c.probe.new.port in
     let ring = c.args.ring.now in
@@ -142,7 +153,7 @@ write_pending-requires g c =
     let lit = c.args.lit in
     let on : IsOn s.vars lit = subst (λ (n : ℕ). IsOn n lit) c.requires.resting.search.stands.vars c.requires.on in
     let z : FailedAlone s m (attached ring.watches) w ring.trail t lit c.in-Ok-Unit.field-0-0 = subst (IsProbed s m (attached ring.watches) w ring.trail t lit) c.in-Ok-Unit.field-0-is c.in-Ok-Unit.ensures.probed in
-    record { search = failed_search s ring lit c.requires.resting on c.requires.free m z.after.wrote c.probe.ensures.log c.probe.ensures.port w t z.after.grown c.probe.ensures.attached c.probe.ensures.trail c.probe.ensures.level c.probe.ensures.watched c.probe.ensures.reasons }
+    failed_search s ring lit c.requires.resting on c.requires.free m z.after.wrote c.probe.ensures.log c.probe.ensures.port w t z.after.grown c.probe.ensures.attached c.probe.ensures.trail c.probe.ensures.level c.probe.ensures.watched c.probe.ensures.reasons
 
 pub returns-in-Ok-clause-resting : goal.returns-in-Ok-clause-resting
 returns-in-Ok-clause-resting g c =

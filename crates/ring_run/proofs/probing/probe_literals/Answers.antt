@@ -15,6 +15,7 @@ loop-turn-init g c =
       resting = c.requires.resting;
       listed = c.requires.listed;
       vars = refl;
+      analysis = refl;
       round = round_begun (point s c.args.ring.now) c.args.ring.now.next_probe;
       steps = omega arith;
       same = refl;
@@ -38,6 +39,7 @@ loop-turn-preserved g c =
       resting = k.resting;
       listed = k.listed;
       vars = k.vars ∙ i.vars;
+      analysis = k.analysis ∙ i.analysis;
       round = (
           let vars = old.trail.vars in
           let took : TookCode (point m mid) (point u new) (code_on vars mid.next_probe) c.loop-turn.left c.in-Ok.rest = subst (λ (v : ℕ). TookCode (point m mid) (point u new) (code_on v mid.next_probe) c.loop-turn.left c.in-Ok.rest) i.vars k.took in
@@ -87,3 +89,6 @@ returns-clause-round g c =
     let old = c.args.ring.now in
     let mid = c.loop-turn.ring in
     round_over (point (g.P.Port.state c.args.port.now) old) (point (g.P.Port.state c.loop-turn.port) mid) old.trail.vars old.next_probe c.loop-turn.left mid.next_probe c.loop-turn._turn (inr (omega (arith, c.loop-turn-test.false))) c.loop-turn.invariant.round
+
+pub probe_next-requires-clause-analysis : goal.probe_next-requires-clause-analysis
+probe_next-requires-clause-analysis g c = c.loop-turn.invariant.analysis ∙ c.requires.analysis ∙ sym c.loop-turn.invariant.vars

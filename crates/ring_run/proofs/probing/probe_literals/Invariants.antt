@@ -12,6 +12,7 @@ invariant-loop-turn g l = record {
   resting : IsResting (g.P.Port.state l.port) l.ring;
   listed : HasLemmas (g.P.Port.state l.port) l.ring;
   vars : l.ring.trail.vars ≡ l.fn.ring.trail.vars;
+  analysis : l.analysis.vars ≡ l.fn.analysis.vars;
   round : GoesRound (point (g.P.Port.state l.fn.port) l.fn.ring) (point (g.P.Port.state l.port) l.ring) l.fn.ring.next_probe l.left (codes_from l.fn.ring.trail.vars l.ring.next_probe (2 * l.fn.ring.trail.vars - l._turn)) l.ring.next_probe;
   steps : length l.fn.ring.trail.steps ≤ length l.ring.trail.steps;
   same : l.ring ≡ record l.fn.ring { trail = l.ring.trail; watches = l.ring.watches; written = l.ring.written; next_probe = l.ring.next_probe };

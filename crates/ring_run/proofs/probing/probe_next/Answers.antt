@@ -132,3 +132,6 @@ returns-in-Err-clause-halts g c =
       subst (λ (r : Ring). HaltsAtProbe (point s r) u (literal_of (code_on old.trail.vars old.next_probe)) c.in-Err.end) same
           (subst (λ (l : Literal). HaltsAtProbe (point s mid) u l c.in-Err.end) lit c.in-Err.ensures.halts),
     )
+
+pub probe_literal-requires-clause-analysis : goal.probe_literal-requires-clause-analysis
+probe_literal-requires-clause-analysis g c = c.requires.analysis ∙ sym (ap (λ (r : Ring). r.trail.vars) c.take_literal-lit.ensures.same)

@@ -151,3 +151,6 @@ pub returns-clause-undrawn : goal.returns-clause-undrawn
 returns-clause-undrawn g c = λ on.
     let took = c.import.ensures.took on in
     ap (λ (x : PortState). x.found) took.polled.state ∙ ap (λ (x : PortState). x.found) took.units.state ∙ c.shrink_due.ensures.nothing.found
+
+pub import-requires-clause-analysis : goal.import-requires-clause-analysis
+import-requires-clause-analysis g c = c.shrink_due.ensures.analysis ∙ c.requires.analysis ∙ sym c.in-Ok.ensures.vars

@@ -1,4 +1,4 @@
-use Rattle.std.proofs.Common.{List, ap, sym, subst, inl, inr, refl, arith, length, Ok}
+use Rattle.std.proofs.Common.{◌∙◌, List, ap, sym, subst, inl, inr, refl, arith, length, Ok}
 use Rattle.ring_run.specs.Halting.{HaltsReducing}
 use Rattle.ring_run.specs.declared.ring.Ring.{Ring}
 use Rattle.sat_words.specs.Literal.{Literal}
@@ -10,6 +10,16 @@ use Rattle.ring_run.proofs.Shrinking.{refused_halts, halts_then}
 use Rattle.ring_run.proofs.reduction.shrink_lemmas.Goals as goal
 use Rattle.ring_run.proofs.Numbering.{kept_wrote}
 use Rattle.ring_run.proofs.InTime.{in_time_wrote}
+
+pub vivify_lemmas-requires-clause-analysis : goal.vivify_lemmas-requires-clause-analysis
+vivify_lemmas-requires-clause-analysis g c = c.requires.analysis ∙ sym (ap (λ (r : Ring). r.trail.vars) c.reduce_both.ensures.same)
+
+pub probe_literals-requires-clause-analysis : goal.probe_literals-requires-clause-analysis
+probe_literals-requires-clause-analysis g c =
+    c.vivify_lemmas.ensures.analysis ∙ c.requires.analysis ∙ sym (c.in-Ok-vivify_lemmas.ensures.vars ∙ ap (λ (r : Ring). r.trail.vars) c.reduce_both.ensures.same)
+
+pub returns-in-Ok-tidy_up-clause-vars : goal.returns-in-Ok-tidy_up-clause-vars
+returns-in-Ok-tidy_up-clause-vars g c = c.in-Ok-probe_literals.ensures.vars ∙ c.in-Ok-vivify_lemmas.ensures.vars ∙ ap (λ (r : Ring). r.trail.vars) c.reduce_both.ensures.same
 
 pub returns-in-Err-clause-over : goal.returns-in-Err-clause-over
 returns-in-Err-clause-over g c =

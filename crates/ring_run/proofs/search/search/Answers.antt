@@ -75,7 +75,7 @@ loop-end-init g c =
       paced = subst (λ (r : Restarting). IsPaced r imported.learned) (sym c.import.ensures.restarts)
           (subst (λ n. IsPaced c.args.ring.now.restarts n) (sym c.import.ensures.learned) c.requires.paced);
       odd = ap (λ (r : Restarting). r.odd) c.import.ensures.restarts;
-      vars = c.requires.vars ∙ c.requires.import.stands.vars ∙ sym goes_on.runs.stays.vars ∙ sym search.stands.vars;
+      vars = c.import.ensures.analysis ∙ c.requires.vars ∙ c.requires.import.stands.vars ∙ sym goes_on.runs.stays.vars ∙ sym search.stands.vars;
       found = subst (λ (x : PortState). IsFound x c.in-Ok.model) same c.in-Ok.ensures.model;
     }
 

@@ -17,6 +17,7 @@ loop-place-init g c = record {
   wrote = wrote_none (g.P.Port.state c.args.port.now);
   lines = units_none (g.P.Port.state c.args.port.now);
   nothing = nothing_none (g.P.Port.state c.args.port.now);
+  analysis = refl;
   port = c.requires.port;
 }
 
@@ -38,6 +39,7 @@ loop-place-preserved g c = record {
   wrote = wrote_by (g.P.Port.state c.args.port.now) (g.P.Port.state c.loop-place.port) (g.P.Port.state c.write_unit.new.port) c.loop-place.invariant.wrote c.in-Ok.ensures.wrote;
   lines = units_then (g.P.Port.state c.args.port.now) (g.P.Port.state c.loop-place.port) (g.P.Port.state c.write_unit.new.port) c.loop-place.invariant.lines c.in-Ok.ensures.lines;
   nothing = nothing_then (g.P.Port.state c.args.port.now) (g.P.Port.state c.loop-place.port) (g.P.Port.state c.write_unit.new.port) c.loop-place.invariant.nothing c.in-Ok.ensures.nothing;
+  analysis = c.in-Ok.ensures.analysis ∙ c.loop-place.invariant.analysis;
   port = c.in-Ok.ensures.port;
 }
 

@@ -15,5 +15,6 @@ invariant-loop-place g l = record {
   wrote : OnlyWrote (g.P.Port.state l.fn.port) (g.P.Port.state l.port);
   lines : ToldUnits (g.P.Port.state l.fn.port) (g.P.Port.state l.port);
   nothing : OffersNothing (g.P.Port.state l.fn.port) (g.P.Port.state l.port);
+  analysis : l.analysis.vars ≡ l.fn.analysis.vars;
   port : IsPort (g.P.Port.state l.port);
 }

@@ -1,6 +1,7 @@
-use Rattle.std.proofs.Common.{◌≡◌, ◌≢◌, ◌∙◌, ℕ, IsSome, subst, ap, inl, inr, refl, Ok}
+use Rattle.std.proofs.Common.{◌≡◌, ◌≢◌, ◌∙◌, ℕ, IsSome, subst, sym, ap, inl, inr, refl, Ok}
 use Rattle.ring_port.specs.PortState.{PortState, held_at}
 use Rattle.ring_port.specs.Log.{KeepsLog}
+use Rattle.ring_trail.specs.TrailData.{TrailData}
 use Rattle.vivify.specs.Outcome.{IsVivified, WasCutShort}
 use Rattle.vivify.specs.declared.shorten.Vivified.{Vivified}
 use Rattle.ring_run.specs.Renewal.{point, IsNamed}
@@ -11,8 +12,8 @@ use Rattle.ring_run.proofs.Reducing.{ok_then, err_then}
 use Rattle.ring_run.proofs.Shrinking.{refused_halts, halts_then, if_ok_then, ok_of}
 use Rattle.ring_run.proofs.vivification.vivify_lemma.Goals as goal
 
-pub settle_left-requires : goal.settle_left-requires
-settle_left-requires g c =
+pub settle_left-requires-clause-left : goal.settle_left-requires-clause-left
+settle_left-requires-clause-left g c =
     let s = g.P.Port.state c.args.port.now in
     let m = g.P.Port.state c.vivify.new.port in
     let ring = c.args.ring.now in
@@ -24,10 +25,14 @@ settle_left-requires g c =
     let log = subst (λ (x : PortState). KeepsLog x m) same c.vivify.ensures.log in
     let port = c.vivify.ensures.port in
     let z : IsVivified s m ring.watches mid.watches ring.trail.steps lemma c.in-Ok.left = subst (λ (x : PortState). IsVivified x m ring.watches mid.watches ring.trail.steps lemma c.in-Ok.left) same c.in-Ok.ensures.vivified in
-    record {
-      left = left_behind s m ring mid lemma c.requires.resting c.requires.lemma named stay log port c.in-Ok.ensures.trail refl c.in-Ok.ensures.watched c.in-Ok.ensures.reasons c.in-Ok.ensures.quiet c.in-Ok.left z
-          (λ l e bad. c.vivify.ensures.open_unit l (c.in-Ok.is ∙ ap (λ (x : Vivified). Ok x) e) bad);
-    }
+    left_behind s m ring mid lemma c.requires.resting c.requires.lemma named stay log port c.in-Ok.ensures.trail refl c.in-Ok.ensures.watched c.in-Ok.ensures.reasons c.in-Ok.ensures.quiet c.in-Ok.left z
+    (λ l e bad. c.vivify.ensures.open_unit l (c.in-Ok.is ∙ ap (λ (x : Vivified). Ok x) e) bad)
+
+pub settle_left-requires-clause-analysis : goal.settle_left-requires-clause-analysis
+settle_left-requires-clause-analysis g c = c.vivify.ensures.analysis ∙ c.requires.analysis ∙ ap (λ (t : TrailData). t.vars) (sym c.in-Ok.ensures.trail)
+
+pub returns-in-Ok-clause-vars : goal.returns-in-Ok-clause-vars
+returns-in-Ok-clause-vars g c = ok_then c.settle_left.result c.settle_left.ensures.vars (λ e. e ∙ ap (λ (t : TrailData). t.vars) c.in-Ok.ensures.trail)
 
 pub returns-in-Ok-clause-over : goal.returns-in-Ok-clause-over
 returns-in-Ok-clause-over g c =

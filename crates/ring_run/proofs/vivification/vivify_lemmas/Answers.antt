@@ -1,4 +1,4 @@
-use Rattle.std.proofs.Common.{◌∙◌, ◌≤◌, ◌<◌, suc, ap, refl, arith, length, take, drop}
+use Rattle.std.proofs.Common.{◌∙◌, ◌≤◌, ◌<◌, suc, ap, sym, refl, arith, length, take, drop}
 use Rattle.ring_run.specs.Renewal.{point}
 use Rattle.ring_run.specs.declared.ring.Ring.{Ring}
 use Rattle.ring_run.proofs.Offering.{nothing_none, nothing_then}
@@ -16,6 +16,8 @@ loop-search_step-init g c =
       unmixed = c.requires.unmixed;
       turned = none_turned (point s c.args.ring.now) c.args.ring.now.lemmas.items;
       steps = omega arith;
+      vars = refl;
+      analysis = refl;
       same = refl;
       looks = refl;
       nothing = nothing_none s;
@@ -40,6 +42,8 @@ loop-search_step-preserved g c =
       turned = one_turned (point s old) (point m mid) (point u new) old.lemmas.items mid.lemmas.items new.lemmas.items c.loop-search_step._search_step c.loop-search_step.place c.in-Ok.next
           (let q = c.loop-search_step-test.true in let n = c.len-search_step-end.ensures in let e = old.lemmas.ok.0 in omega (arith, q, n, e)) i.turned k.took;
       steps = omega (arith, i.steps, k.steps);
+      vars = k.vars ∙ i.vars;
+      analysis = k.analysis ∙ i.analysis;
       same = k.same ∙ ap (λ (r : Ring). record r { trail = new.trail; watches = new.watches; written = new.written; lemmas = new.lemmas }) i.same;
       looks = k.looks ∙ i.looks;
       nothing = nothing_then s m u i.nothing k.nothing;
@@ -83,3 +87,6 @@ returns-in-Err-clause-halts g c =
       parts = cut_turned p q old.lemmas.items mid.lemmas.items i c.loop-search_step.place how.lemma lt t how.there;
       halts = how.halts;
     }
+
+pub vivify_at-requires-clause-analysis : goal.vivify_at-requires-clause-analysis
+vivify_at-requires-clause-analysis g c = c.loop-search_step.invariant.analysis ∙ c.requires.analysis ∙ sym c.loop-search_step.invariant.vars

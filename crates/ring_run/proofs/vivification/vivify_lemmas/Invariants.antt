@@ -14,6 +14,8 @@ invariant-loop-search_step g l = record {
   unmixed : AreUnmixed l.ring;
   turned : AreTurned (point (g.P.Port.state l.fn.port) l.fn.ring) (point (g.P.Port.state l.port) l.ring) l.fn.ring.lemmas.items l.ring.lemmas.items l._search_step l.place;
   steps : length l.fn.ring.trail.steps ≤ length l.ring.trail.steps;
+  vars : l.ring.trail.vars ≡ l.fn.ring.trail.vars;
+  analysis : l.analysis.vars ≡ l.fn.analysis.vars;
   same : l.ring ≡ record l.fn.ring { trail = l.ring.trail; watches = l.ring.watches; written = l.ring.written; lemmas = l.ring.lemmas };
   looks : (g.P.Port.state l.port).looks ≡ (g.P.Port.state l.fn.port).looks;
   nothing : OffersNothing (g.P.Port.state l.fn.port) (g.P.Port.state l.port);

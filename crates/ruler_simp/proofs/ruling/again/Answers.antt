@@ -1,5 +1,7 @@
-use Rattle.std.proofs.Common.{ap, subst, refl}
+use Rattle.std.proofs.Common.{List, [], ap, subst, refl}
+use Rattle.sat_words.specs.Literal.{Literal}
 use Rattle.simp_base.specs.WorkState.{WorkState, resumed}
+use Rattle.simp_base.specs.Log.{Stands}
 use Rattle.simp_base.proofs.Resuming.{resumed_work, resumed_stands}
 use Rattle.ruler_simp.specs.Rounds.{WasSimplified}
 use Rattle.ruler_simp.proofs.Telling.{ruled_again, none_made_again}
@@ -11,7 +13,8 @@ returns-in-Err g c =
     let start : WorkState = resumed c.args.vars c.args.clauses.items c.args.units.items c.args.stack out in
     none_made_again F c.args.schedule start c.requires.unspent refl
     (resumed_work F c.args.vars c.args.clauses.items c.args.units.items c.args.stack out c.requires.resumes.0 c.requires.resumes.1)
-    (λ J r. resumed_stands F c.args.vars c.args.clauses.items c.args.units.items c.args.stack out c.requires.unspent J r)
+    (λ J r. subst (λ (us : List Literal). Stands (record { formula = F; journal = J; output = out }) [] (record start { units = us })) r.1
+    (resumed_stands F c.args.vars c.args.clauses.items r.0 c.args.stack out c.requires.unspent J r.2))
     (g.L.LineOut.told c.in-Err.refused.value) (ap g.L.LineOut.told c.in-Err.ensures.back)
 
 pub returns-in-Ok : goal.returns-in-Ok
@@ -20,7 +23,8 @@ returns-in-Ok g c =
     let start : WorkState = resumed c.args.vars c.args.clauses.items c.args.units.items c.args.stack out in
     ruled_again F c.args.schedule start c.requires.unspent refl
     (resumed_work F c.args.vars c.args.clauses.items c.args.units.items c.args.stack out c.requires.resumes.0 c.requires.resumes.1)
-    (λ J r. resumed_stands F c.args.vars c.args.clauses.items c.args.units.items c.args.stack out c.requires.unspent J r)
+    (λ J r. subst (λ (us : List Literal). Stands (record { formula = F; journal = J; output = out }) [] (record start { units = us })) r.1
+    (resumed_stands F c.args.vars c.args.clauses.items r.0 c.args.stack out c.requires.unspent J r.2))
     c.run-answer.new.work c.run-answer.ensures.work (g.L.LineOut.told c.take.result.1) c.take.ensures.output c.run-answer.result
     (subst (λ (w : WorkState). WasSimplified c.args.schedule w c.run-answer.new.work c.run-answer.result) c.in-Ok.ensures.made c.run-answer.ensures.ran)
     c.take.result.0 c.take.ensures.taken

@@ -1,6 +1,6 @@
 use Rattle.std.proofs.Common.{◌∙◌, ◌++◌, ◌∷◌, [], List, Option, ℕ, IfSome, length, take, sym, ap, subst, arith}
 use Rattle.std.proofs.lemmas.List.{take_all, take_more, length-take-le}
-use Rattle.sat_words.specs.declared.line.Line.{Line}
+use Rattle.share_core.specs.declared.round_line.RoundLine.{RoundLine}
 use Rattle.rup_model.specs.declared.journal.Entry.{Entry}
 use Rattle.rup_model.specs.Journal.{book}
 use Rattle.share_core.specs.NextRound.{IsDeletion, AreDeleted}
@@ -28,9 +28,9 @@ loop-line-preserved c =
     let here : IsDeletion (book F c.loop-line.journal) c.args.kept.now c.line-item.result c.in-Some.number =
     subst (λ (K : List Entry). IsDeletion (book F K) c.args.kept.now c.line-item.result c.in-Some.number) c.as_slice.ensures own in
     let more = deleted_more F J c.args.kept.now (take i c.args.lines.now) c.loop-line.journal c.line-item.result c.in-Some.number c.loop-line.invariant here in
-    let next = take_more c.args.lines.now i c.line-item.result c.loop-line-test.true ∙ ap (λ (l : Line). take i c.args.lines.now ++ l ∷ []) (sym c.line-item.is) in
-    subst (λ (L : List Line). AreDeleted F J c.args.kept.now L c.push.new.self) (sym next)
+    let next = take_more c.args.lines.now i c.line-item.result c.loop-line-test.true ∙ ap (λ (l : RoundLine). take i c.args.lines.now ++ l ∷ []) (sym c.line-item.is) in
+    subst (λ (L : List RoundLine). AreDeleted F J c.args.kept.now L c.push.new.self) (sym next)
     (subst (AreDeleted F J c.args.kept.now (take i c.args.lines.now ++ c.line-item.result ∷ [])) (sym c.in_ok-push.ensures) more)
 
 pub returns : goal.returns
-returns c _ = subst (λ (L : List Line). AreDeleted c.args.clauses.now c.args.journal.now c.args.kept.now L c.loop-line.journal) (take_all c.loop-line.line-index c.args.lines.now c.loop-line-test.false) c.loop-line.invariant
+returns c _ = subst (λ (L : List RoundLine). AreDeleted c.args.clauses.now c.args.journal.now c.args.kept.now L c.loop-line.journal) (take_all c.loop-line.line-index c.args.lines.now c.loop-line-test.false) c.loop-line.invariant

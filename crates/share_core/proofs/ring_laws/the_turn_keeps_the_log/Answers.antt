@@ -10,4 +10,7 @@ pub returns-clause-units : goal.returns-clause-units
 returns-clause-units c = λ d r es t others h. (run_quiet r es d t (others_in r es others) (enabled_states d es h)).1
 
 pub returns-clause-turn : goal.returns-clause-turn
-returns-clause-turn c = λ d r es t others h. (run_quiet r es d t (others_in r es others) (enabled_states d es h)).2
+returns-clause-turn c = λ d r es t others h. (run_quiet r es d t (others_in r es others) (enabled_states d es h)).3
+
+pub returns-clause-numbers : goal.returns-clause-numbers
+returns-clause-numbers c = λ d r es t others h. (run_quiet r es d t (others_in r es others) (enabled_states d es h)).2

@@ -1,5 +1,5 @@
-use Rattle.std.proofs.Common.{◌≡◌, ◌∙◌, sym, subst, ap, refl}
-use Rattle.std.specs.Prelude.{Bool, IsSome, List}
+use Rattle.std.proofs.Common.{◌∙◌, sym, subst, refl}
+use Rattle.std.specs.Prelude.{Bool, IsSome}
 use Rattle.std.specs.Mem.Slots.{slots_items}
 use Rattle.share_core.proofs.Counting.{some_same}
 use Rattle.share_rule.specs.Books.{StandsFor}

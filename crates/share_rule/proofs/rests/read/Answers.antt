@@ -1,4 +1,4 @@
-use Rattle.std.proofs.Common.{◌≡◌, ◌∙◌, Bool, true, false, sym, subst}
+use Rattle.std.proofs.Common.{◌∙◌, Bool, sym, subst}
 use Rattle.share_rule.specs.Rests.{TellsRests}
 use Rattle.share_rule.proofs.rests.read.Goals as goal
 

@@ -1,4 +1,4 @@
-use Rattle.std.proofs.Common.{◌∙◌, ◌≡◌, ◌+◌, ◌/◌, ◌%◌, ◌^◌, ℕ, length, sym, ap, subst, arith}
+use Rattle.std.proofs.Common.{◌∙◌, ◌≡◌, ◌/◌, ◌%◌, ◌^◌, ℕ, length, sym, ap, subst, arith}
 use Rattle.std.specs.Mem.Slots.{slots_items, slots_counts, slots_small}
 use Rattle.sat_words.specs.Clause.{clause_of}
 use Rattle.share_core.specs.declared.stored.Cell.{Cell}

@@ -1,4 +1,4 @@
-use Rattle.std.proofs.Common.{◌≡◌, ℕ, List, take}
+use Rattle.std.proofs.Common.{◌≡◌, List, take}
 use Rattle.std.specs.Mem.Slots.{slots_items}
 use Rattle.sat_words.specs.Literal.{Literal}
 use Rattle.share_rule.specs.Rests.{HasLits}

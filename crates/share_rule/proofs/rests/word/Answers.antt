@@ -1,5 +1,5 @@
 use Rattle.std.proofs.Common.{sym, arith}
-use Rattle.std.specs.Mem.Slots.{slots_counts, slots_small}
+use Rattle.std.specs.Mem.Slots.{slots_counts}
 use Rattle.share_rule.proofs.CellWords.{item_is}
 use Rattle.share_rule.proofs.rests.word.Goals as goal
 

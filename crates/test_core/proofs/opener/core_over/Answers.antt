@@ -12,4 +12,4 @@ new-requires c =
     c.as_slice.ensures.value ∙ c.in_ok-starts.ensures ∙ ap (λ (G : List (List Literal)). map (start_at G) c.args.start.now) c.clauses.ensures in
     let same : opens c.clauses-2.result.now c.as_slice.result.now c.args.units.now c.args.rings c.args.depth c.args.limit ≡ opens F (map (start_at F) c.args.start.now) c.args.units.now c.args.rings c.args.depth c.args.limit =
     λ j. opens (c.clauses-2.ensures j) (starts j) c.args.units.now c.args.rings c.args.depth c.args.limit in
-    opening_from F c.args.start.now c.args.units.now c.args.rings c.args.depth c.args.limit (sym (c.opens.ensures ∙ same) ∙ c.if-not-opens.false)
+    opening_from F c.args.start.now c.args.units.now c.args.rings c.args.depth c.args.limit c.args.hinted (sym (c.opens.ensures ∙ same) ∙ c.if-not-opens.false)

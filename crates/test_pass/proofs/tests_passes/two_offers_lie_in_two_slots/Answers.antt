@@ -10,7 +10,7 @@ pub join_ring-requires-2-clause-home : goal.join_ring-requires-2-clause-home
 join_ring-requires-2-clause-home g c = λ p pass. c.in_ok-_later.ensures.same.same.home ∙ c.in_ok-zero.ensures.home p pass
 
 pub close-requires-clause-whole : goal.close-requires-clause-whole
-close-requires-clause-whole g c = λ r lt. c.join_ring-2.ensures.rings r (omega arith) lt
+close-requires-clause-whole g c = λ r lt. c.join_ring-2.ensures.gathered.rings r (omega arith) lt
 
 pub join_ring-requires-clause-first : goal.join_ring-requires-clause-first
 join_ring-requires-clause-first g c =

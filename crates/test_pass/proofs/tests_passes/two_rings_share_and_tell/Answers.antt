@@ -15,8 +15,8 @@ join_ring-requires-clause-home g c = home_left c.in_ok-table.table c.in_ok-one.o
 pub join_ring-requires-2-clause-home : goal.join_ring-requires-2-clause-home
 join_ring-requires-2-clause-home g c = home_left c.in_ok-table.table c.in_ok-zero.zero c.hand_over.new.zero c.give_up_and_tell.new.zero c.in_ok-zero.ensures.home c.in_ok-heard.ensures.zero_same.same c.in_ok-unit.ensures.zero
 
-pub close-requires-clause-whole : goal.close-requires-clause-whole
-close-requires-clause-whole g c = λ r lt. c.join_ring-2.ensures.rings r (omega arith) lt
+pub close_round-requires-clause-whole : goal.close_round-requires-clause-whole
+close_round-requires-clause-whole g c = λ r lt. c.join_ring-2.ensures.gathered.rings r (omega arith) lt
 
 pub join_ring-requires-clause-first : goal.join_ring-requires-clause-first
 join_ring-requires-clause-first g c =

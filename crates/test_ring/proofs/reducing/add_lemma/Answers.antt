@@ -1,10 +1,13 @@
 use Rattle.std.proofs.Common.{subst, sym}
 use Rattle.ring_port.specs.Port.{KeepsHeld}
-use Rattle.test_ring.proofs.ReductionRow.{copy_follows, lits_are, lemma_added, added_lemma}
+use Rattle.test_ring.proofs.ReductionRow.{copy_follows, copy_hints, lits_are, lemma_added, added_lemma}
 use Rattle.test_ring.proofs.reducing.add_lemma.Goals as goal
 
 pub derive-requires-clause-rup : goal.derive-requires-clause-rup
 derive-requires-clause-rup g c = copy_follows (g.P.Port.state c.args.port.now) _ (lits_are c.new.result c.new-2.result c.new-3.result c.new.ensures c.new-2.ensures c.new-3.ensures) c.requires.row
+
+pub derive-requires-clause-hints : goal.derive-requires-clause-hints
+derive-requires-clause-hints g c = copy_hints (g.P.Port.state c.args.port.now) _ c.requires.row
 
 pub returns-clause-lemmas : goal.returns-clause-lemmas
 returns-clause-lemmas g c =

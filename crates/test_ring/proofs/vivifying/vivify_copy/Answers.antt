@@ -1,10 +1,11 @@
 use Rattle.std.proofs.Common.{◌≡◌, ◌∙◌, ◌++◌, ◌∷◌, [], List, Contains, sym, ap, subst, rules}
 use Rattle.sat_words.specs.declared.shared.Cref.{Cref}
+use Rattle.ring_port.specs.Port.{is_usable}
 use Rattle.ring_port.specs.PortState.{PortState, lits_at}
 use Rattle.ring_trail.specs.TrailData.{TrailData}
 use Rattle.watch_prop.specs.WatchData.{attached}
 use Rattle.watch_prop.specs.Watched.{Watched}
-use Rattle.test_ring.proofs.VivificationRow.{copy_follows, copy_is_part, lits_are, fresh_trail, last_in, vivified_copy}
+use Rattle.test_ring.proofs.VivificationRow.{copy_follows, copy_hints, copy_is_part, lits_are, fresh_trail, last_in, vivified_copy, vivified_refused}
 use Rattle.test_ring.proofs.vivifying.vivify_copy.Goals as goal
 
 pub derive-requires-clause-rup : goal.derive-requires-clause-rup
@@ -12,6 +13,9 @@ derive-requires-clause-rup g c = copy_follows (g.P.Port.state c.args.port.now) _
 
 pub derive-requires-clause-part : goal.derive-requires-clause-part
 derive-requires-clause-part g c = copy_is_part (g.P.Port.state c.args.port.now) _ (lits_are c.new.result c.new-2.result c.new-3.result c.new.ensures c.new-2.ensures c.new-3.ensures) c.requires
+
+pub derive-requires-clause-hints : goal.derive-requires-clause-hints
+derive-requires-clause-hints g c = copy_hints (g.P.Port.state c.args.port.now) _ c.requires
 
 pub propagate-requires-clause-watched : goal.propagate-requires-clause-watched
 propagate-requires-clause-watched g c =
@@ -32,3 +36,10 @@ returns-in-Ok-vivify-clause-vivified g c =
     (c.propagate.ensures.same ∙ c.attach-2.ensures.same ∙ c.attach.ensures.same)
     (c.propagate.ensures.attached ∙ c.in_ok-attach-2.ensures.attached ∙ ap (λ (cs : List Cref). cs ++ c.in-Ok.copy ∷ []) (c.in_ok-attach.ensures.attached ∙ ap (λ (cs : List Cref). cs ++ record { address = 0 } ∷ []) c.in_ok-watches.ensures.none))
     bare c.in-Ok-vivify.ensures.vivified
+
+pub returns-in-Ok-vivify-clause-usable : goal.returns-in-Ok-vivify-clause-usable
+returns-in-Ok-vivify-clause-usable g c =
+    let vivified = vivified_refused (g.P.Port.state c.propagate.new.port) (g.P.Port.state c.vivify.new.port) c.propagate.new.self c.vivify.new.watches c.propagate.new.trail.steps c.in-Ok.copy _ c.in-Ok-vivify.ensures.vivified in
+    let same : g.P.Port.state c.propagate.new.port ≡ g.P.Port.state c.derive.new.self = c.propagate.ensures.same ∙ c.attach-2.ensures.same ∙ c.attach.ensures.same in
+    let derived = ap (λ (x : PortState). x.refused) c.in-Ok.ensures.derived.state in
+    ap is_usable (vivified ∙ ap (λ (x : PortState). x.refused) same ∙ derived) ∙ c.requires.usable

@@ -26,5 +26,5 @@ returns c s is =
       on = was.answer.0.on;
       unspent = was.answer.1.unspent;
       plain = plain;
-      resumes = (was.journal, c.what_is_left_resumes.ensures.first F schedule c.args.lines out s c.requires.on was plain);
+      resumes = (was.journal, c.what_is_left_resumes.ensures.first F schedule c.args.lines out s c.requires.on was);
     }

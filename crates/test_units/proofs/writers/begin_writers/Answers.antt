@@ -19,7 +19,7 @@ loop-ring-preserved g c =
     let m = length-append l.all.items (w ∷ []) in
     let len = i.3 in
     let P : Writer g.row.S.Denot g.S.Sink → Type 0 = λ x. IsWriter c.args.table.now x.ring.pass x.ring.ring (plus 2) in
-    let one : P w = subst (λ (k : ℕ). IsWriter c.args.table.now w.ring.pass k (plus 2)) (sym b.ring.1) (new_writer c.args.table.now w.ring.pass l.ring l.first.me.0.opening s.0 b.ring.0.is_ring b.part.0 (ap (λ (o : CoreOpening). o.starts) i.1 ∙ s.1) c.requires.vars) in (
+    let one : P w = subst (λ (k : ℕ). IsWriter c.args.table.now w.ring.pass k (plus 2)) (sym b.ring.1) (new_writer c.args.table.now w.ring.pass l.ring l.first.me.0.opening s.0 b.ring.0.is_ring b.part.0 (ap (λ (o : CoreOpening). o.hinted) (b.part.1 ∙ i.1) ∙ c.requires.plain) (ap (λ (o : CoreOpening). o.starts) i.1 ∙ s.1) c.requires.vars) in (
       b.first,
       b.same.0 ∙ i.1,
       b.same.1 ∙ i.2,

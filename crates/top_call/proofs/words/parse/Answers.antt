@@ -2,7 +2,7 @@ use Rattle.std.proofs.Common.{◌∙◌, ap, sym, map, inl, inr, Ok, Err}
 use Rattle.std.specs.Prelude.{string_bytes, Result, IfErr, IsErrOf}
 use Rattle.std.proofs.lemmas.Result.{IfOk-weaker}
 use Rattle.clap.specs.Words.{App, fault_of, is_simple, is_simple_and_free, kind_of, matches_of}
-use Rattle.top_call.specs.Words.{command_in, unless_both}
+use Rattle.top_call.specs.Words.{command_in, unless_clashing}
 use Rattle.top_call.proofs.CommandLine.{threads_of, limit_of, round_of, words_of, slots_of, seed_of, walk_of, made_of, lawful_words, refused_words, solver_simple, solver_free}
 use Rattle.top_call.proofs.words.parse.Goals as goal
 
@@ -41,8 +41,8 @@ returns-in-Ok-try_get_matches_from-clause-asks c =
     let ok = c.in-Ok-try_get_matches_from.ensures in
     let rows = (ok.matches (ap is_simple app ∙ solver_simple)).0 ∙ ap (λ (a : App). matches_of a words) app in
     let asked = lawful_words words (sym (ap (λ (a : App). fault_of a words) app) ∙ ok.kinds (ap is_simple_and_free app ∙ solver_free))
-    ∙ ap (λ rs. unless_both (command_in rs)) (sym rows) ∙ ap unless_both c.command_in.ensures.asks in
-    IfOk-weaker c.unless_both.result _ _ (λ taken e. asked ∙ e) c.unless_both.ensures.asks
+    ∙ ap (λ rs. unless_clashing (command_in rs)) (sym rows) ∙ ap unless_clashing c.command_in.ensures.asks in
+    IfOk-weaker c.unless_clashing.result _ _ (λ taken e. asked ∙ e) c.unless_clashing.ensures.asks
 
 pub returns-in-Ok-try_get_matches_from-clause-usage : goal.returns-in-Ok-try_get_matches_from-clause-usage
 returns-in-Ok-try_get_matches_from-clause-usage c = λ usage.
@@ -51,8 +51,8 @@ returns-in-Ok-try_get_matches_from-clause-usage c = λ usage.
     let ok = c.in-Ok-try_get_matches_from.ensures in
     let rows = (ok.matches (ap is_simple app ∙ solver_simple)).0 ∙ ap (λ (a : App). matches_of a words) app in
     let asked = lawful_words words (sym (ap (λ (a : App). fault_of a words) app) ∙ ok.kinds (ap is_simple_and_free app ∙ solver_free))
-    ∙ ap (λ rs. unless_both (command_in rs)) (sym rows) ∙ ap unless_both c.command_in.ensures.asks in
-    asked ∙ refused _ c.unless_both.result _ usage c.unless_both.ensures.usage
+    ∙ ap (λ rs. unless_clashing (command_in rs)) (sym rows) ∙ ap unless_clashing c.command_in.ensures.asks in
+    asked ∙ refused _ c.unless_clashing.result _ usage c.unless_clashing.ensures.usage
 
 pub returns-in-Err-try_get_matches_from-clause-usage : goal.returns-in-Err-try_get_matches_from-clause-usage
 returns-in-Err-try_get_matches_from-clause-usage c = λ usage.

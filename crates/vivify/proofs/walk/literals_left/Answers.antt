@@ -1,6 +1,11 @@
 use Rattle.std.proofs.Common.{◌≡◌, ◌∙◌, List, [], Some, sym, ap, subst, arith}
 use Rattle.sat_words.specs.declared.shared.Cref.{Cref}
-use Rattle.ring_port.specs.PortState.{PortState, lits_at}
+use Rattle.sat_words.specs.Literal.{Literal}
+use Rattle.ring_port.specs.PortState.{PortState, clause_at, lits_at}
+use Rattle.ring_port.specs.Port.{AreHints}
+use Rattle.ring_trail.specs.Reasoned.{IsReasoned}
+use Rattle.watch_prop.proofs.TrailLaws.{Reasons-held}
+use Rattle.vivify.specs.Ending.{CanTrace}
 use Rattle.ring_trail.specs.TrailData.{TrailData}
 use Rattle.watch_prop.specs.WatchData.{attached}
 use Rattle.watch_prop.specs.Watched.{Watched}
@@ -10,7 +15,7 @@ use Rattle.watch_prop.proofs.Quiets.{quiet-same}
 use Rattle.vivify.specs.Walking.{IsWalking, PassedOver, HasWalked}
 use Rattle.vivify.proofs.Walked.{set_aside, is_back, put_back, left_now}
 use Rattle.vivify.proofs.walk.literals_left.Given as Given
-use Rattle.vivify.proofs.walk.literals_left.Goals.{In_ok-walk_clause, After-back_to}
+use Rattle.vivify.proofs.walk.literals_left.Goals.{In_ok-ending, After-back_to}
 use Rattle.vivify.proofs.walk.literals_left.Goals as goal
 
 pub propagate-requires-clause-below : goal.propagate-requires-clause-below
@@ -30,11 +35,11 @@ pub walk_clause-requires-clause-vars : goal.walk_clause-requires-clause-vars
 walk_clause-requires-clause-vars g c =
     ap (λ (s : PortState). s.vars) c.propagate.ensures.same ∙ c.requires.vars ∙ sym c.requires.watched.vars ∙ sym (ap (λ (t : TrailData). t.vars) (c.propagate.ensures.still c.requires.quiet))
 
-pub returns-in_err-walk_clause-clause-attached : goal.returns-in_err-walk_clause-clause-attached
-returns-in_err-walk_clause-clause-attached g c = c.walk_clause.ensures.passed.clauses ∙ c.propagate.ensures.attached
+pub returns-in_err-ending-clause-attached : goal.returns-in_err-ending-clause-attached
+returns-in_err-ending-clause-attached g c = c.walk_clause.ensures.passed.clauses ∙ c.propagate.ensures.attached
 
-pub returns-in_err-walk_clause-clause-vars : goal.returns-in_err-walk_clause-clause-vars
-returns-in_err-walk_clause-clause-vars g c = c.walk_clause.ensures.passed.vars ∙ c.propagate.ensures.vars
+pub returns-in_err-ending-clause-vars : goal.returns-in_err-ending-clause-vars
+returns-in_err-ending-clause-vars g c = c.walk_clause.ensures.passed.vars ∙ c.propagate.ensures.vars
 
 pub returns-clause-attached : goal.returns-clause-attached
 returns-clause-attached g c = c.walk_clause.ensures.passed.clauses ∙ c.propagate.ensures.attached
@@ -43,17 +48,17 @@ pub returns-clause-vars : goal.returns-clause-vars
 returns-clause-vars g c = c.walk_clause.ensures.passed.vars ∙ c.propagate.ensures.vars
 
 -- what the walk did, over the port at the start
-walked : (g : Given.Over) (c : In_ok-walk_clause g) → HasWalked (g.P.Port.state c.args.port.now) (but (Some c.args.c) c.propagate.new.self) (but (Some c.args.c) c.walk_clause.new.watches) c.propagate.new.trail c.walk_clause.new.trail
-    (lits_at (g.P.Port.state c.args.port.now) c.args.c.address) c.walk_clause.new.kept.items
+walked : (g : Given.Over) (c : In_ok-ending g) → HasWalked (g.P.Port.state c.args.port.now) c.args.c (but (Some c.args.c) c.propagate.new.self) (but (Some c.args.c) c.walk_clause.new.watches) c.propagate.new.trail c.walk_clause.new.trail
+    c.walk_clause.new.kept.items c.in_ok-ending.ending
 walked g c =
-    subst (λ (x : PortState). HasWalked x (but (Some c.args.c) c.propagate.new.self) (but (Some c.args.c) c.walk_clause.new.watches) c.propagate.new.trail c.walk_clause.new.trail (lits_at x c.args.c.address) c.walk_clause.new.kept.items)
-    c.propagate.ensures.same c.in_ok-walk_clause.ensures.walked
+    subst (λ (x : PortState). HasWalked x c.args.c (but (Some c.args.c) c.propagate.new.self) (but (Some c.args.c) c.walk_clause.new.watches) c.propagate.new.trail c.walk_clause.new.trail c.walk_clause.new.kept.items c.in_ok-ending.ending)
+    c.propagate.ensures.same c.in_ok-ending.ensures.walked
 
 trail_is : (g : Given.Over) (c : After-back_to g) → c.back_to.new.self ≡ c.args.trail.now
 trail_is g c =
     c.back_to.ensures.back (omega arith)
     ∙ is_back (g.P.Port.state c.args.port.now) c.args.watches.now c.propagate.new.self c.walk_clause.new.watches c.args.trail.now c.propagate.new.trail c.walk_clause.new.trail c.args.c c.decision_level-lawful.ensures.trail c.requires.level c.requires.quiet
-    (c.propagate.ensures.still c.requires.quiet) (walked g (goal.at.After-back_to g c).In_ok-walk_clause).above
+    (c.propagate.ensures.still c.requires.quiet) (walked g (goal.at.After-back_to g c).In_ok-ending).above
 
 pub returns-clause-trail : goal.returns-clause-trail
 returns-clause-trail g c = trail_is g (goal.at.returns-clause-trail g c).After-back_to
@@ -64,7 +69,7 @@ returns-clause-watched g c =
     let passed = subst (λ (x : PortState). PassedOver x c.args.c c.propagate.new.self c.walk_clause.new.watches) c.propagate.ensures.same c.walk_clause.ensures.passed in
     subst (λ (t : TrailData). Watched c.walk_clause.new.watches (lits_at s) t) (sym (trail_is g (goal.at.returns-clause-watched g c).After-back_to))
     (put_back s c.args.watches.now c.propagate.new.self c.walk_clause.new.watches c.args.trail.now c.propagate.new.trail c.walk_clause.new.trail c.args.c c.decision_level-lawful.ensures.trail c.requires.level c.requires.quiet
-    (c.propagate.ensures.still c.requires.quiet) (walked g (goal.at.returns-clause-watched g c).In_ok-walk_clause).above c.propagate.ensures.watched passed)
+    (c.propagate.ensures.still c.requires.quiet) (walked g (goal.at.returns-clause-watched g c).In_ok-ending).above c.propagate.ensures.watched passed)
 
 pub returns-clause-quiet : goal.returns-clause-quiet
 returns-clause-quiet g c =
@@ -80,9 +85,30 @@ returns-clause-reasons g c =
 pub returns-clause-left : goal.returns-clause-left
 returns-clause-left g c =
     let s = g.P.Port.state c.args.port.now in
-    let w = walked g (goal.at.returns-clause-left g c).In_ok-walk_clause in
+    let w = walked g (goal.at.returns-clause-left g c).In_ok-ending in
     left_now s c.args.watches.now c.propagate.new.self c.walk_clause.new.watches c.args.trail.now c.propagate.new.trail c.walk_clause.new.trail c.args.c c.decision_level-lawful.ensures.trail c.requires.level c.requires.quiet
     (c.propagate.ensures.still c.requires.quiet) w.above c.walk_clause.new.kept.items (lits_at s c.args.c.address) c.propagate.ensures.attached w.left_is
 
 pub returns-clause-implied : goal.returns-clause-implied
-returns-clause-implied g c = (walked g (goal.at.returns-clause-implied g c).In_ok-walk_clause).implied
+returns-clause-implied g c = (walked g (goal.at.returns-clause-implied g c).In_ok-ending).implied
+
+pub trace_ending-requires-clause-vars : goal.trace_ending-requires-clause-vars
+trace_ending-requires-clause-vars g c =
+    (walked g (goal.at.trace_ending-requires-clause-vars g c).In_ok-ending).above.vars ∙ ap (λ (t : TrailData). t.vars) (c.propagate.ensures.still c.requires.quiet) ∙ sym c.requires.analysis
+
+pub trace_ending-requires-clause-reasoned : goal.trace_ending-requires-clause-reasoned
+trace_ending-requires-clause-reasoned g c =
+    let steps = c.walk_clause.new.trail.steps in
+    subst (λ (x : PortState). IsReasoned (clause_at x) x.seen steps) (sym (c.walk_clause.ensures.same ∙ c.propagate.ensures.same))
+    (Reasons-held (attached (but (Some c.args.c) c.walk_clause.new.watches)) (g.P.Port.state c.args.port.now) steps (walked g (goal.at.trace_ending-requires-clause-reasoned g c).In_ok-ending).above.reasons)
+
+pub trace_ending-requires-clause-can : goal.trace_ending-requires-clause-can
+trace_ending-requires-clause-can g c =
+    subst (λ (kept : List Literal). CanTrace (g.P.Port.state c.walk_clause.new.port) c.walk_clause.new.trail kept c.args.c c.in_ok-ending.ending) (sym c.as_slice.ensures.value)
+    (subst (λ (x : PortState). CanTrace x c.walk_clause.new.trail c.walk_clause.new.kept.items c.args.c c.in_ok-ending.ending) (sym (c.walk_clause.ensures.same ∙ c.propagate.ensures.same))
+    (walked g (goal.at.trace_ending-requires-clause-can g c).In_ok-ending).traced)
+
+pub returns-clause-hints : goal.returns-clause-hints
+returns-clause-hints g c =
+    subst (λ (x : PortState). AreHints x c.walk_clause.new.kept.items c.trace_ending.new.analysis.hints) (c.walk_clause.ensures.same ∙ c.propagate.ensures.same)
+    (subst (λ (kept : List Literal). AreHints (g.P.Port.state c.walk_clause.new.port) kept c.trace_ending.new.analysis.hints) c.as_slice.ensures.value c.trace_ending.ensures.hints)

@@ -2,7 +2,8 @@ use Rattle.std.proofs.Common.{◌∙◌, ◌≤◌, sym, ap, arith}
 use Rattle.ring_port.proofs.Holdings.{held_is_known}
 use Rattle.analyze.specs.AnalysisData.{AnalysisData}
 use Rattle.analyze.proofs.Refuting.{rup-none}
-use Rattle.analyze.proofs.Parts.{vars_of_trail, IsLemma-from, touched_in_range, touched_short, kept_in_range, kept_few}
+use Rattle.analyze.proofs.Starting.{CanTraceClause-zero}
+use Rattle.analyze.proofs.Parts.{vars_of_trail, IsLemma-from, CanTraceClause-from, touched_in_range, touched_short, kept_in_range, kept_few}
 use Rattle.analyze.proofs.ReasonSide.{point_up_to, kept_up_to, AreAnalyzed-from}
 use Rattle.analyze.proofs.analysis.Analysis.analyze.Goals as goal
 
@@ -91,3 +92,17 @@ returns-clause-analyzed g c =
     (rw c.level_of_clause-level.ensures.same at c.find_first_uip-point.ensures.walked) c.mark_reason_side.ensures.marking
     (kept_up_to c.args.trail.now _ _ c.find_first_uip-point.ensures.marking _ c.level_of_clause-level.ensures.shape)
     (rw (same, c.as_slice.ensures.value, c.write_kept_places.ensures.kept, c.touched.ensures) at c.mark_reason_side.ensures.marks))
+
+pub trace_clause-requires-clause-can : goal.trace_clause-requires-clause-can
+trace_clause-requires-clause-can g c =
+    rw c.level_of_clause-level.ensures.same
+    (CanTraceClause-zero _ c.args.trail.now _ c.level_of_clause-level.ensures.shape c.requires.conflict (sym c.level_of_clause-level.ensures.level ∙ c.if-level-eq0.true))
+
+pub trace_clause-requires-2-clause-can : goal.trace_clause-requires-2-clause-can
+trace_clause-requires-2-clause-can g c =
+    let before = c.find_first_uip-point.ensures.same ∙ c.level_of_clause-level.ensures.same in
+    let same = c.mark_reason_side.ensures.same ∙ c.judge_all.ensures.same ∙ before in
+    let judged = rw before at c.judge_all.ensures.judged in
+    rw (same, c.as_slice-2.ensures.value, c.write_lemma.ensures.lits, c.as_slice-kept_places.ensures.value, c.write_kept_places.ensures.kept, c.touched.ensures, c.values.ensures)
+    (CanTraceClause-from _ c.args.trail.now _ _ _ _ _ c.level_of_clause-level.ensures.shape c.requires.reasoned (held_is_known _ _ c.requires.held) c.requires.conflict c.level_of_clause-level.ensures.level
+    (omega (arith, c.if-level-eq0.false)) c.find_first_uip-point.ensures.marking (rw c.level_of_clause-level.ensures.same at c.find_first_uip-point.ensures.walked) judged c.judge_all.ensures.found)

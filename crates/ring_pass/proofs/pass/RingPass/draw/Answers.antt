@@ -1,11 +1,11 @@
 use Rattle.std.proofs.Common.{vec_capacity}
 use Rattle.share_rule.specs.declared.view.View.{View}
 use Rattle.ring_pass.proofs.DrawsHere.{may_draw, ring_draws, ring_drew, room_drew, units_drew, offer_drew}
-use Rattle.ring_pass.proofs.Stays.{ring_port}
+use Rattle.ring_pass.proofs.Stays.{own_in, ring_port}
 use Rattle.ring_pass.proofs.pass.RingPass.draw.Goals as goal
 
 pub draw-requires-clause-may : goal.draw-requires-clause-may
-draw-requires-clause-may g c = may_draw c.self.inside.pass.me.0 _ c.args.self.now c.self.invariant.0.one c.self.view_is c.requires.none c.requires.left
+draw-requires-clause-may g c = may_draw c.self.inside.pass.me.0 (own_in c.self.invariant.0) c.args.self.now c.self.invariant.0.one c.self.view_is c.requires.none c.requires.left
 
 pub invariant_of-self : goal.invariant_of-self
 invariant_of-self g c =

@@ -24,6 +24,19 @@ returns-in_default-clause-port g c =
     let e = c.read_head-head.ensures in
     ring_port (ring_stays c.read_head-head.new.pass c.self.invariant.0 e.pass.0 e.pass.1 (loaded_twice (c.args.c.address + 1) (c.args.c.address + 2) c.self.inside.pass.me.0 c.read_head-head.new.pass.me.0 e.part))
 
+pub invariant_of-self-in_default : goal.invariant_of-self-in_default
+invariant_of-self-in_default g c =
+    let v : View = c.self.inside.pass.me.0 in
+    let u : View = c.read_head-head.new.pass.me.0 in
+    let e = c.read_head-head.ensures in
+    let looked = loaded_twice (c.args.c.address + 1) (c.args.c.address + 2) c.self.inside.pass.me.0 c.read_head-head.new.pass.me.0 e.part in (
+      ring_stays c.read_head-head.new.pass c.self.invariant.0 e.pass.0 e.pass.1 looked,
+      room_stays v u c.self.inside.last c.reserve.new.self.items (vec_capacity c.reserve.new.self) looked
+          (room_grows _ v.opening.rings c.self.inside.last c.self.inside.waiting.items c.reserve.new.self.items (vec_capacity c.self.inside.waiting) (vec_capacity c.reserve.new.self) c.self.invariant.1 c.reserve.ensures.items c.reserve.ensures.capacity),
+      units_stay v u c.self.inside.seen.items (vec_capacity c.self.inside.seen) (vec_capacity c.self.inside.arrived) looked c.self.invariant.2,
+      offer_stays v u c.self.inside.last c.self.inside.spares looked c.self.invariant.3,
+    )
+
 pub read_clause-requires-clause-held : goal.read_clause-requires-clause-held
 read_clause-requires-clause-held g c =
     holding_same c.self.inside.pass.me.0 c.read_head-head.new.pass.me.0 c.args.c.address (loaded_twice (c.args.c.address + 1) (c.args.c.address + 2) c.self.inside.pass.me.0 c.read_head-head.new.pass.me.0 c.read_head-head.ensures.part)

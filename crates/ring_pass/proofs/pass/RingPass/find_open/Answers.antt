@@ -3,14 +3,14 @@ use Rattle.sat_words.specs.Literal.{Literal}
 use Rattle.sat_words.specs.Values.{first_open}
 use Rattle.ring_pass.proofs.CanOffers.{offer_stays}
 use Rattle.ring_pass.proofs.Scans.{as_looked}
-use Rattle.ring_pass.proofs.Stays.{ring_stays, port_stays, room_stays, units_stay, ring_port, ring_holds, lits_found}
+use Rattle.ring_pass.proofs.Stays.{own_in, ring_stays, port_stays, room_stays, units_stay, ring_port, ring_holds, lits_found}
 use Rattle.ring_pass.proofs.pass.RingPass.find_open.Goals as goal
 
 pub find_open-requires-clause-held : goal.find_open-requires-clause-held
 find_open-requires-clause-held g c = ring_holds c.args.self.now c.args.c.address c.self.invariant.0 c.self.view_is c.requires
 
 pub returns-clause-first : goal.returns-clause-first
-returns-clause-first g c = c.find_open.ensures.first ∙ ap (λ (ls : List Literal). first_open c.args.values.now c.args.other ls) (sym (lits_found c.self.inside.pass.me.0 _ c.args.self.now c.args.c.address c.self.view_is c.requires))
+returns-clause-first g c = c.find_open.ensures.first ∙ ap (λ (ls : List Literal). first_open c.args.values.now c.args.other ls) (sym (lits_found c.self.inside.pass.me.0 (own_in c.self.invariant.0) c.args.self.now c.args.c.address c.self.view_is c.requires))
 
 pub invariant_of-self : goal.invariant_of-self
 invariant_of-self g c =

@@ -1,6 +1,6 @@
 use Rattle.std.proofs.Common.{◌∙◌, ◌+◌, ap, sym, length, vec_capacity}
 use Rattle.ring_pass.proofs.CanOffers.{offer_stays}
-use Rattle.ring_pass.proofs.Stays.{loaded_twice, ring_stays, port_stays, room_stays, units_stay, ring_port, ring_holds, head_found, lits_found}
+use Rattle.ring_pass.proofs.Stays.{own_in, loaded_twice, ring_stays, port_stays, room_stays, units_stay, ring_port, ring_holds, head_found, lits_found}
 use Rattle.ring_pass.proofs.pass.RingPass.head.Goals as goal
 
 pub read_head-requires-clause-held : goal.read_head-requires-clause-held
@@ -19,10 +19,10 @@ invariant_of-self g c =
 pub returns-clause-value : goal.returns-clause-value
 returns-clause-value g c =
     let e = c.read_head.ensures in
-    head_found c.self.inside.pass.me.0 _ c.args.self.now c.args.c.address c.read_head.result c.self.view_is c.requires e.size e.number e.glue
+    head_found c.self.inside.pass.me.0 (own_in c.self.invariant.0) c.args.self.now c.args.c.address c.read_head.result c.self.view_is c.requires e.size e.number e.glue
 
 pub returns-clause-size : goal.returns-clause-size
-returns-clause-size g c = c.read_head.ensures.size ∙ sym (ap length (lits_found c.self.inside.pass.me.0 _ c.args.self.now c.args.c.address c.self.view_is c.requires))
+returns-clause-size g c = c.read_head.ensures.size ∙ sym (ap length (lits_found c.self.inside.pass.me.0 (own_in c.self.invariant.0) c.args.self.now c.args.c.address c.self.view_is c.requires))
 
 pub returns-clause-same : goal.returns-clause-same
 returns-clause-same g c =

@@ -27,7 +27,7 @@ returns-in_err-lit-clause-took g c =
 pub returns-in_err-lit-clause-port : goal.returns-in_err-lit-clause-port
 returns-in_err-lit-clause-port g c =
     let e = c.see_next.ensures in
-    ring_port (ring_sees_all c.see_next.new.pass (length c.self.inside.seen.items) c.self.inside.seen.items c.see_next.new.seen.items c.see_next.new.arrived.items c.self.invariant.0 e.pass.0 e.pass.1 c.in_err-lit.ensures.saw)
+    ring_port (ring_sees_all c.see_next.new.pass (length c.self.inside.seen.items) c.self.inside.seen.items c.see_next.new.seen.items c.see_next.new.arrived.items c.see_next.new.numbers.items c.self.invariant.0 e.pass.0 e.pass.1 c.in_err-lit.ensures.saw e.numbers)
 
 pub invariant_of-self-2 : goal.invariant_of-self-2
 invariant_of-self-2 g c =
@@ -36,7 +36,7 @@ invariant_of-self-2 g c =
     let len = c.len.ensures in
     let le = c.self.invariant.0.own.passed in
     let saw = c.in_ok-lit.ensures.saw in (
-      ring_sees c.see_next.new.pass c.in_ok-lit.lit c.self.inside.seen.items c.see_next.new.seen.items c.see_next.new.arrived.items (c.self.inside.passed + 1) c.self.invariant.0 e.pass.0 e.pass.1 saw (omega arith),
+      ring_sees c.see_next.new.pass c.in_ok-lit.lit c.self.inside.seen.items c.see_next.new.seen.items c.see_next.new.arrived.items (c.self.inside.passed + 1) c.see_next.new.numbers.items c.self.invariant.0 e.pass.0 e.pass.1 saw (omega arith) e.numbers,
       room_sees c.self.inside.pass.me.0 c.see_next.new.pass.me.0 c.in_ok-lit.lit c.self.inside.seen.items c.see_next.new.seen.items c.self.inside.arrived.items c.see_next.new.arrived.items c.self.inside.last c.self.inside.waiting.items (vec_capacity c.self.inside.waiting) c.self.invariant.0.one saw c.self.invariant.1,
       units_sees c.self.inside.pass.me.0 c.see_next.new.pass.me.0 c.in_ok-lit.lit c.self.inside.seen.items c.see_next.new.seen.items c.self.inside.arrived.items c.see_next.new.arrived.items (vec_capacity c.self.inside.seen) (vec_capacity c.self.inside.arrived) (vec_capacity c.see_next.new.seen) (vec_capacity c.see_next.new.arrived)
           c.self.invariant.0.one saw e.room.0 e.room.1 c.self.invariant.2,

@@ -7,7 +7,7 @@ use Rattle.ring_port.specs.Port.{is_usable}
 use Rattle.ring_pass.specs.Writes.{Wrote, WroteNone}
 use Rattle.ring_pass.specs.RingState.{home_of}
 use Rattle.ring_pass.proofs.OfferTurns.{offer_reduced, offer_refused}
-use Rattle.ring_pass.proofs.Stays.{ring_port, name_stays}
+use Rattle.ring_pass.proofs.Stays.{own_in, ring_port, name_stays}
 use Rattle.ring_pass.proofs.TurnsHere.{reduced_as, ring_reduced, room_reduced, units_reduced, refused_as, ring_refused, room_refused, units_refused}
 use Rattle.ring_pass.proofs.pass.RingPass.note_reduce.Goals as goal
 
@@ -28,7 +28,7 @@ pub returns-in-Ok-clause-noted : goal.returns-in-Ok-clause-noted
 returns-in-Ok-clause-noted g c =
     let e = c.write_reduction-noted.ensures in
     let w = subst (λ r. OnOk r (Wrote c.self.inside.pass.me.0 c.write_reduction-noted.new.pass.me.0 Reduce)) c.in-Ok.is e.wrote in
-    reduced_as _ c.args.self.now c.clear.new.self.items (home_of c.write_reduction-noted.new.pass) c.self.view_is c.self.invariant.0.own w c.clear.ensures.items (name_stays c.write_reduction-noted.new.pass c.self.invariant.0 e.pass.0)
+    reduced_as (own_in c.self.invariant.0) c.args.self.now c.clear.new.self.items (home_of c.write_reduction-noted.new.pass) c.self.view_is c.self.invariant.0.own w c.clear.ensures.items (name_stays c.write_reduction-noted.new.pass c.self.invariant.0 e.pass.0)
 
 pub returns-in-Ok-clause-port : goal.returns-in-Ok-clause-port
 returns-in-Ok-clause-port g c = ring_port (invariant_of-self g c).0
@@ -47,7 +47,7 @@ pub returns-in-Err-clause-noted : goal.returns-in-Err-clause-noted
 returns-in-Err-clause-noted g c =
     let e = c.write_reduction-noted.ensures in
     let w = subst (λ r. IfErr r (WroteNone c.self.inside.pass.me.0 c.write_reduction-noted.new.pass.me.0)) c.in-Err.is e.refused in
-    refused_as _ c.args.self.now c.refuse.new.refused c.refuse.new.ended c.refuse.result (home_of c.write_reduction-noted.new.pass) c.self.view_is c.self.invariant.0 c.requires.usable w c.refuse.ensures.kept c.refuse.ensures.ended c.refuse.ensures.stop (name_stays c.write_reduction-noted.new.pass c.self.invariant.0 e.pass.0)
+    refused_as (own_in c.self.invariant.0) c.args.self.now c.refuse.new.refused c.refuse.new.ended c.refuse.result (home_of c.write_reduction-noted.new.pass) c.self.view_is c.self.invariant.0 c.requires.usable w c.refuse.ensures.kept c.refuse.ensures.ended c.refuse.ensures.stop (name_stays c.write_reduction-noted.new.pass c.self.invariant.0 e.pass.0)
 
 pub returns-in-Err-clause-port : goal.returns-in-Err-clause-port
 returns-in-Err-clause-port g c = ring_port (invariant_of-self-in-Err g c).0

@@ -9,13 +9,13 @@ use Rattle.ring_pass.specs.Offering.{others, CanTakeBack}
 use Rattle.ring_pass.proofs.CanOffers.{offer_stays}
 use Rattle.ring_pass.specs.RingState.{CanOffer}
 use Rattle.ring_pass.proofs.OfferedHere.{has_offer, class_here, class_small, ring_offers, room_offers, offer_offers, port_offers, rings_same, depth_same, some_not_none}
-use Rattle.ring_pass.proofs.Stays.{loaded_twice, ring_stays, port_stays, room_stays, units_stay, units_keep, ring_port}
+use Rattle.ring_pass.proofs.Stays.{own_in, loaded_twice, ring_stays, port_stays, room_stays, units_stay, units_keep, ring_port}
 use Rattle.ring_pass.proofs.pass.RingPass.offer.Goals as goal
 
 pub unreachable-requires : goal.unreachable-requires
 unreachable-requires g c =
     let e = c.read_head-head.ensures in
-    let is = class_here c.self.inside.pass.me.0 _ c.args.self.now c.args.c.address c.read_head-head.result c.self.view_is c.requires.held e.size e.glue ∙ sym c.class_of.ensures ∙ c.in_default.is in
+    let is = class_here c.self.inside.pass.me.0 (own_in c.self.invariant.0) c.args.self.now c.args.c.address c.read_head-head.result c.self.view_is c.requires.held e.size e.glue ∙ sym c.class_of.ensures ∙ c.in_default.is in
     some_not_none _ is c.requires.class
 
 pub put_for_all-puts-requires-clause-shares : goal.put_for_all-puts-requires-clause-shares
@@ -84,7 +84,7 @@ returns-clause-offered g c =
     let all : others c.self.inside.ring c.self.inside.table.now.layout.rings ≡ others (only u).core.ring u.opening.rings = rings_same u e.pass.0.3 c.self.inside.ring c.self.inside.table.now.layout r.one r.ring e.pass.0.2 in
     let f = c.put_for_all-puts.ensures in
     let small : c.in-Some.class < 4 = class_small c.read_head-head.result.size c.read_head-head.result.glue c.in-Some.class (sym c.class_of.ensures ∙ c.in-Some.is) in
-    let is = class_here v _ c.args.self.now a c.read_head-head.result c.self.view_is c.requires.held e.size e.glue ∙ sym c.class_of.ensures ∙ c.in-Some.is in
+    let is = class_here v (own_in c.self.invariant.0) c.args.self.now a c.read_head-head.result c.self.view_is c.requires.held e.size e.glue ∙ sym c.class_of.ensures ∙ c.in-Some.is in
     port_offers c.put_for_all-puts.new.pass c.args.self.now c.in-Some.class (slice_index c.self.inside.spares.places c.in-Some.class) a (class_at c.args.self.now a) (others c.self.inside.ring c.self.inside.table.now.layout.rings) is all
     (λ k lt other. places.next k c.in-Some.class lt other small) r f.pass.0 (port_stays c.read_head-head.new.pass c.self.invariant.0 e.pass.0 looked ∙ c.self.view_is) f.put
 

@@ -2,10 +2,10 @@ use Rattle.std.proofs.Common.{◌∙◌, ◌∷◌, [], ◌++◌, Option, Some, 
 use Rattle.sat_words.specs.declared.shared.Cref.{Cref}
 use Rattle.pool_exchange.specs.Found.{IsFound}
 use Rattle.ring_port.specs.PortState.{PortState, held_at}
-use Rattle.ring_pass.specs.RingState.{port_of, home_of}
+use Rattle.ring_pass.specs.RingState.{port_of}
 use Rattle.ring_pass.proofs.CanOffers.{offer_polls}
 use Rattle.ring_pass.proofs.DropsHere.{on_ok}
-use Rattle.ring_pass.proofs.Stays.{ring_port, port_retaken}
+use Rattle.ring_pass.proofs.Stays.{own_in, ring_port, port_retaken}
 use Rattle.ring_pass.proofs.PollsHere.{ring_polls, room_polls, units_polls, port_polls, polled_keeps}
 use Rattle.ring_pass.proofs.pass.RingPass.poll.Goals as goal
 
@@ -14,16 +14,7 @@ returns-then-is_err-clause-port g c = port_retaken c.reserve.new.self.items c.se
 
 pub returns-then-is_err-clause-kept : goal.returns-then-is_err-clause-kept
 returns-then-is_err-clause-kept g c = λ a _.
-    ap (λ (ts : List Cref). held_at (port_of c.self.inside.pass.me.0 (record {
-      arrived = c.self.inside.arrived.items;
-      passed = c.self.inside.passed;
-      last = c.self.inside.last;
-      polled = c.self.inside.polled;
-      refused = c.self.inside.refused;
-      taken = ts;
-      ended = c.self.inside.ended;
-      home = home_of c.self.inside.pass;
-    })) a) c.reserve.ensures.items
+    ap (λ (ts : List Cref). held_at (port_of c.self.inside.pass.me.0 (record (own_in c.self.invariant.0) { taken = ts })) a) c.reserve.ensures.items
     ∙ ap (λ (s : PortState). held_at s a) c.self.view_is
 
 pub push_reserved-requires : goal.push_reserved-requires

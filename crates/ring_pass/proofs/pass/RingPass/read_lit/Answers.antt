@@ -4,14 +4,14 @@ use Rattle.sat_words.specs.Literal.{Literal}
 use Rattle.share_rule.specs.Views.{clause_of}
 use Rattle.ring_pass.proofs.CanOffers.{offer_stays}
 use Rattle.ring_pass.proofs.RingPorts.{lit_here}
-use Rattle.ring_pass.proofs.Stays.{loaded, ring_stays, port_stays, room_stays, units_stay, ring_port, ring_holds, lits_found}
+use Rattle.ring_pass.proofs.Stays.{own_in, loaded, ring_stays, port_stays, room_stays, units_stay, ring_port, ring_holds, lits_found}
 use Rattle.ring_pass.proofs.pass.RingPass.read_lit.Goals as goal
 
 pub read_lit-requires-clause-held : goal.read_lit-requires-clause-held
 read_lit-requires-clause-held g c = ring_holds c.args.self.now c.args.c.address c.self.invariant.0 c.self.view_is c.requires.held
 
 pub read_lit-requires-clause-place : goal.read_lit-requires-clause-place
-read_lit-requires-clause-place g c = subst (λ (n : ℕ). c.args.i < n) (ap length (lits_found c.self.inside.pass.me.0 _ c.args.self.now c.args.c.address c.self.view_is c.requires.held)) c.requires.inside
+read_lit-requires-clause-place g c = subst (λ (n : ℕ). c.args.i < n) (ap length (lits_found c.self.inside.pass.me.0 (own_in c.self.invariant.0) c.args.self.now c.args.c.address c.self.view_is c.requires.held)) c.requires.inside
 
 pub invariant_of-self : goal.invariant_of-self
 invariant_of-self g c =
@@ -25,7 +25,7 @@ invariant_of-self g c =
 
 pub returns-clause-value : goal.returns-clause-value
 returns-clause-value g c =
-    let same = lits_found c.self.inside.pass.me.0 _ c.args.self.now c.args.c.address c.self.view_is c.requires.held in
+    let same = lits_found c.self.inside.pass.me.0 (own_in c.self.invariant.0) c.args.self.now c.args.c.address c.self.view_is c.requires.held in
     ap (λ (ls : List Literal). slice_get ls c.args.i) same
     ∙ lit_here (clause_of c.args.c.address c.self.inside.pass.me.0).lits c.args.i (subst (λ (ls : List Literal). c.args.i < length ls) same c.requires.inside) ∙ ap (λ (l : Literal). Some l) (sym c.read_lit.ensures.literal)
 

@@ -3,7 +3,7 @@ use Rattle.ring_port.specs.Port.{is_usable}
 use Rattle.ring_port.specs.PortState.{PortState}
 use Rattle.ring_pass.specs.RingState.{home_of}
 use Rattle.ring_pass.proofs.OfferTurns.{offer_deleted, offer_some}
-use Rattle.ring_pass.proofs.Stays.{ring_port, name_stays}
+use Rattle.ring_pass.proofs.Stays.{own_in, ring_port, name_stays}
 use Rattle.ring_pass.proofs.DeletesHere.{are_length, none_left, ring_deleted, room_deleted, units_deleted, tidied_all, tidied_some, ring_some, room_some, units_some}
 use Rattle.ring_pass.proofs.pass.RingPass.tidy.Goals as goal
 
@@ -21,7 +21,7 @@ invariant_of-self g c =
 pub returns-in-Ok-clause-tidied : goal.returns-in-Ok-clause-tidied
 returns-in-Ok-clause-tidied g c =
     let e = c.delete_all-deleted.ensures in
-    tidied_all _ c.args.self.now (home_of c.delete_all-deleted.new.pass) c.self.view_is c.self.invariant.0.own c.in-Ok.ensures.deleted (are_length c.self.inside.waiting.items _ c.self.invariant.1.waits) (name_stays c.delete_all-deleted.new.pass c.self.invariant.0 e.pass.0)
+    tidied_all (own_in c.self.invariant.0) c.args.self.now (home_of c.delete_all-deleted.new.pass) c.self.view_is c.self.invariant.0.own c.in-Ok.ensures.deleted (are_length c.self.inside.waiting.items _ c.self.invariant.1.waits) (name_stays c.delete_all-deleted.new.pass c.self.invariant.0 e.pass.0)
 
 pub returns-in-Ok-clause-port : goal.returns-in-Ok-clause-port
 returns-in-Ok-clause-port g c = ring_port (invariant_of-self g c).0
@@ -40,7 +40,7 @@ invariant_of-self-in-Err g c =
 pub returns-in-Err-clause-tidied : goal.returns-in-Err-clause-tidied
 returns-in-Err-clause-tidied g c =
     let e = c.delete_all-deleted.ensures in
-    tidied_some _ c.args.self.now c.refuse.new.refused c.refuse.new.ended c.refuse.result (home_of c.delete_all-deleted.new.pass) c.self.view_is c.self.invariant.0 c.requires.usable c.in-Err.ensures.refused (are_length c.self.inside.waiting.items _ c.self.invariant.1.waits) c.refuse.ensures.kept c.refuse.ensures.ended c.refuse.ensures.stop
+    tidied_some (own_in c.self.invariant.0) c.args.self.now c.refuse.new.refused c.refuse.new.ended c.refuse.result (home_of c.delete_all-deleted.new.pass) c.self.view_is c.self.invariant.0 c.requires.usable c.in-Err.ensures.refused (are_length c.self.inside.waiting.items _ c.self.invariant.1.waits) c.refuse.ensures.kept c.refuse.ensures.ended c.refuse.ensures.stop
     (name_stays c.delete_all-deleted.new.pass c.self.invariant.0 e.pass.0)
 
 pub returns-in-Err-clause-port : goal.returns-in-Err-clause-port

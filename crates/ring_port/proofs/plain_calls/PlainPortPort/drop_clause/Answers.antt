@@ -15,13 +15,13 @@ use Rattle.ring_port.proofs.plain_calls.PlainPortPort.drop_clause.Goals as goal
 pub drop_clause-requires : goal.drop_clause-requires
 drop_clause-requires g c =
     let i = c.self.inside in
-    let p : PlainData = record { vars = i.vars; start = i.store.start; held = i.store.held; waiting = i.store.waiting; opening = i.opening.items; passed = i.passed; given = i.given.items; given_room = vec_capacity i.given - vec_len i.given; written = i.written.items; log = i.log; last = i.last; tickets = i.tickets; stop = i.stop; looks = i.looks; caught_up = i.caught_up } in
+    let p : PlainData = record { vars = i.vars; start = i.store.start; held = i.store.held; waiting = i.store.waiting; opening = i.opening.items; passed = i.passed; given = i.given.items; given_room = vec_capacity i.given - vec_len i.given; written = i.written.items; hinted = i.hinted; told = i.told.items; log = i.log; last = i.last; tickets = i.tickets; stop = i.stop; looks = i.looks; caught_up = i.caught_up } in
     at_address (state_of p) c.args.c.address (subst (λ s. IsSome (held_at s c.args.c.address)) (sym (state_is c.self.view_is)) c.requires.held)
 
 pub invariant_of-self-2 : goal.invariant_of-self-2
 invariant_of-self-2 g c =
     let i = c.self.inside in
-    let p : PlainData = record { vars = i.vars; start = i.store.start; held = i.store.held; waiting = i.store.waiting; opening = i.opening.items; passed = i.passed; given = i.given.items; given_room = vec_capacity i.given - vec_len i.given; written = i.written.items; log = i.log; last = i.last; tickets = i.tickets; stop = i.stop; looks = i.looks; caught_up = i.caught_up } in
+    let p : PlainData = record { vars = i.vars; start = i.store.start; held = i.store.held; waiting = i.store.waiting; opening = i.opening.items; passed = i.passed; given = i.given.items; given_room = vec_capacity i.given - vec_len i.given; written = i.written.items; hinted = i.hinted; told = i.told.items; log = i.log; last = i.last; tickets = i.tickets; stop = i.stop; looks = i.looks; caught_up = i.caught_up } in
     let some : IsSome (find (is_at c.args.c.address) p.held) = at_address (state_of p) c.args.c.address (subst (λ s. IsSome (held_at s c.args.c.address)) (sym (state_is c.self.view_is)) c.requires.held) in
     let x = held_clause p.held c.args.c.address some in
     let waits : c.drop_clause.new.self.waiting ≡ p.waiting ++ x.0 ∷ [] = subst (λ (o : Option Holding). IfSome o (λ h. c.drop_clause.new.self.waiting ≡ p.waiting ++ h ∷ [])) x.1 c.in_ok-drop_clause.ensures.waiting in
@@ -34,7 +34,7 @@ returns-clause-port g c = plain_port _ (invariant_of-self-2 g c)
 pub returns-clause-dropped : goal.returns-clause-dropped
 returns-clause-dropped g c =
     let i = c.self.inside in
-    let p : PlainData = record { vars = i.vars; start = i.store.start; held = i.store.held; waiting = i.store.waiting; opening = i.opening.items; passed = i.passed; given = i.given.items; given_room = vec_capacity i.given - vec_len i.given; written = i.written.items; log = i.log; last = i.last; tickets = i.tickets; stop = i.stop; looks = i.looks; caught_up = i.caught_up } in
+    let p : PlainData = record { vars = i.vars; start = i.store.start; held = i.store.held; waiting = i.store.waiting; opening = i.opening.items; passed = i.passed; given = i.given.items; given_room = vec_capacity i.given - vec_len i.given; written = i.written.items; hinted = i.hinted; told = i.told.items; log = i.log; last = i.last; tickets = i.tickets; stop = i.stop; looks = i.looks; caught_up = i.caught_up } in
     let some : IsSome (find (is_at c.args.c.address) p.held) = at_address (state_of p) c.args.c.address (subst (λ s. IsSome (held_at s c.args.c.address)) (sym (state_is c.self.view_is)) c.requires.held) in
     let x = held_clause p.held c.args.c.address some in
     let waits : c.drop_clause.new.self.waiting ≡ p.waiting ++ x.0 ∷ [] = subst (λ (o : Option Holding). IfSome o (λ h. c.drop_clause.new.self.waiting ≡ p.waiting ++ h ∷ [])) x.1 c.in_ok-drop_clause.ensures.waiting in
@@ -45,7 +45,7 @@ returns-clause-dropped g c =
 pub returns-clause-log : goal.returns-clause-log
 returns-clause-log g c =
     let i = c.self.inside in
-    let p : PlainData = record { vars = i.vars; start = i.store.start; held = i.store.held; waiting = i.store.waiting; opening = i.opening.items; passed = i.passed; given = i.given.items; given_room = vec_capacity i.given - vec_len i.given; written = i.written.items; log = i.log; last = i.last; tickets = i.tickets; stop = i.stop; looks = i.looks; caught_up = i.caught_up } in
+    let p : PlainData = record { vars = i.vars; start = i.store.start; held = i.store.held; waiting = i.store.waiting; opening = i.opening.items; passed = i.passed; given = i.given.items; given_room = vec_capacity i.given - vec_len i.given; written = i.written.items; hinted = i.hinted; told = i.told.items; log = i.log; last = i.last; tickets = i.tickets; stop = i.stop; looks = i.looks; caught_up = i.caught_up } in
     let some : IsSome (find (is_at c.args.c.address) p.held) = at_address (state_of p) c.args.c.address (subst (λ s. IsSome (held_at s c.args.c.address)) (sym (state_is c.self.view_is)) c.requires.held) in
     let x = held_clause p.held c.args.c.address some in
     let waits : c.drop_clause.new.self.waiting ≡ p.waiting ++ x.0 ∷ [] = subst (λ (o : Option Holding). IfSome o (λ h. c.drop_clause.new.self.waiting ≡ p.waiting ++ h ∷ [])) x.1 c.in_ok-drop_clause.ensures.waiting in
@@ -56,5 +56,5 @@ returns-clause-log g c =
 pub returns-in_err-drop_clause-clause-port : goal.returns-in_err-drop_clause-clause-port
 returns-in_err-drop_clause-clause-port g c =
     let i = c.self.inside in
-    let p : PlainData = record { vars = i.vars; start = i.store.start; held = i.store.held; waiting = i.store.waiting; opening = i.opening.items; passed = i.passed; given = i.given.items; given_room = vec_capacity i.given - vec_len i.given; written = i.written.items; log = i.log; last = i.last; tickets = i.tickets; stop = i.stop; looks = i.looks; caught_up = i.caught_up } in
+    let p : PlainData = record { vars = i.vars; start = i.store.start; held = i.store.held; waiting = i.store.waiting; opening = i.opening.items; passed = i.passed; given = i.given.items; given_room = vec_capacity i.given - vec_len i.given; written = i.written.items; hinted = i.hinted; told = i.told.items; log = i.log; last = i.last; tickets = i.tickets; stop = i.stop; looks = i.looks; caught_up = i.caught_up } in
     subst (λ (s : StoreData). IsPort (state_of (record p { start = s.start; held = s.held; waiting = s.waiting }))) (sym c.in_err-drop_clause.ensures.back) (plain_port p c.self.invariant)

@@ -4,44 +4,46 @@ use Rattle.std.specs.List.{slice_get}
 use Rattle.std.specs.declared.option.Option.{Option}
 use Rattle.sat_words.specs.Literal.{Literal}
 use Rattle.drat_text.specs.LineOut.{deleted_line}
+use Rattle.drat_text.specs.LineState.{LineState}
 use Rattle.ring_port.specs.PortState.{Holding, IsPort, head_of}
 use Rattle.ring_port.specs.Port.{is_usable}
 use Rattle.ring_port.specs.Log.{KeepsLog}
-use Rattle.ring_port.specs.OwnLog.{DeletedEntry, NotPut}
+use Rattle.ring_port.specs.OwnLog.{LogData, DeletedEntry, NotPut}
 use Rattle.ring_port.specs.Store.{StoreData}
 use Rattle.ring_port.specs.PlainPort.{PlainData, state_of, IsPlain}
-use Rattle.ring_port.proofs.PlainLemmas.{state_is, plain_port, plain_log, some_waits, first_waits, plain_deleted}
+use Rattle.ring_port.proofs.PlainLemmas.{state_is, plain_port, plain_log, some_waits, first_waits, plain_deleted, same_last, last_kept}
 use Rattle.ring_port.proofs.PlainSteps.{deletion_keeps, deletion_refused}
 use Rattle.ring_port.proofs.plain_port.PlainPort.delete_first.Goals as goal
 
 pub returns-in_err-free_last-clause-port : goal.returns-in_err-free_last-clause-port
 returns-in_err-free_last-clause-port g c =
     let i = c.self.inside in
-    let p : PlainData = record { vars = i.vars; start = i.store.start; held = i.store.held; waiting = i.store.waiting; opening = i.opening.items; passed = i.passed; given = i.given.items; given_room = vec_capacity i.given - vec_len i.given; written = i.written.items; log = i.log; last = i.last; tickets = i.tickets; stop = i.stop; looks = i.looks; caught_up = i.caught_up } in
+    let p : PlainData = record { vars = i.vars; start = i.store.start; held = i.store.held; waiting = i.store.waiting; opening = i.opening.items; passed = i.passed; given = i.given.items; given_room = vec_capacity i.given - vec_len i.given; written = i.written.items; hinted = i.hinted; told = i.told.items; log = i.log; last = i.last; tickets = i.tickets; stop = i.stop; looks = i.looks; caught_up = i.caught_up } in
     subst (λ (s : StoreData). IsPort (state_of (record p { start = s.start; held = s.held; waiting = s.waiting }))) (sym c.free_last.ensures.same) (plain_port _ c.self.invariant)
 
 pub returns-in_err-make_room-clause-port : goal.returns-in_err-make_room-clause-port
 returns-in_err-make_room-clause-port g c =
     let i = c.self.inside in
-    let p : PlainData = record { vars = i.vars; start = i.store.start; held = i.store.held; waiting = i.store.waiting; opening = i.opening.items; passed = i.passed; given = i.given.items; given_room = vec_capacity i.given - vec_len i.given; written = i.written.items; log = i.log; last = i.last; tickets = i.tickets; stop = i.stop; looks = i.looks; caught_up = i.caught_up } in
-    subst (λ (s : StoreData). IsPort (state_of (record p { start = s.start; held = s.held; waiting = s.waiting; log = c.make_room.new.self }))) (sym c.free_last.ensures.same) (plain_port _ (plain_log p c.self.invariant c.make_room.new.self i.last))
+    let p : PlainData = record { vars = i.vars; start = i.store.start; held = i.store.held; waiting = i.store.waiting; opening = i.opening.items; passed = i.passed; given = i.given.items; given_room = vec_capacity i.given - vec_len i.given; written = i.written.items; hinted = i.hinted; told = i.told.items; log = i.log; last = i.last; tickets = i.tickets; stop = i.stop; looks = i.looks; caught_up = i.caught_up } in
+    subst (λ (s : StoreData). IsPort (state_of (record p { start = s.start; held = s.held; waiting = s.waiting; log = c.make_room.new.self }))) (sym c.free_last.ensures.same) (plain_port _ (plain_log p c.self.invariant c.make_room.new.self i.last (same_last (ap (λ (k : LogData). k.output.last) c.make_room.ensures.same))))
 
 pub returns-in_default-clause-port : goal.returns-in_default-clause-port
 returns-in_default-clause-port g c =
     let i = c.self.inside in
-    let p : PlainData = record { vars = i.vars; start = i.store.start; held = i.store.held; waiting = i.store.waiting; opening = i.opening.items; passed = i.passed; given = i.given.items; given_room = vec_capacity i.given - vec_len i.given; written = i.written.items; log = i.log; last = i.last; tickets = i.tickets; stop = i.stop; looks = i.looks; caught_up = i.caught_up } in
-    subst (λ (s : StoreData). IsPort (state_of (record p { start = s.start; held = s.held; waiting = s.waiting; log = c.make_room.new.self }))) (sym c.free_last.ensures.same) (plain_port _ (plain_log p c.self.invariant c.make_room.new.self i.last))
+    let p : PlainData = record { vars = i.vars; start = i.store.start; held = i.store.held; waiting = i.store.waiting; opening = i.opening.items; passed = i.passed; given = i.given.items; given_room = vec_capacity i.given - vec_len i.given; written = i.written.items; hinted = i.hinted; told = i.told.items; log = i.log; last = i.last; tickets = i.tickets; stop = i.stop; looks = i.looks; caught_up = i.caught_up } in
+    subst (λ (s : StoreData). IsPort (state_of (record p { start = s.start; held = s.held; waiting = s.waiting; log = c.make_room.new.self }))) (sym c.free_last.ensures.same) (plain_port _ (plain_log p c.self.invariant c.make_room.new.self i.last (same_last (ap (λ (k : LogData). k.output.last) c.make_room.ensures.same))))
 
 pub returns-in_err-delete-clause-port : goal.returns-in_err-delete-clause-port
 returns-in_err-delete-clause-port g c =
     let i = c.self.inside in
-    let p : PlainData = record { vars = i.vars; start = i.store.start; held = i.store.held; waiting = i.store.waiting; opening = i.opening.items; passed = i.passed; given = i.given.items; given_room = vec_capacity i.given - vec_len i.given; written = i.written.items; log = i.log; last = i.last; tickets = i.tickets; stop = i.stop; looks = i.looks; caught_up = i.caught_up } in
-    subst (λ (s : StoreData). IsPort (state_of (record p { start = s.start; held = s.held; waiting = s.waiting; log = c.delete.new.self }))) (sym c.free_last.ensures.same) (plain_port _ (plain_log p c.self.invariant c.delete.new.self i.last))
+    let p : PlainData = record { vars = i.vars; start = i.store.start; held = i.store.held; waiting = i.store.waiting; opening = i.opening.items; passed = i.passed; given = i.given.items; given_room = vec_capacity i.given - vec_len i.given; written = i.written.items; hinted = i.hinted; told = i.told.items; log = i.log; last = i.last; tickets = i.tickets; stop = i.stop; looks = i.looks; caught_up = i.caught_up } in
+    subst (λ (s : StoreData). IsPort (state_of (record p { start = s.start; held = s.held; waiting = s.waiting; log = c.delete.new.self }))) (sym c.free_last.ensures.same) (plain_port _ (plain_log p c.self.invariant c.delete.new.self i.last
+    (same_last (last_kept c.make_room.new.self c.delete.new.self (deleted_line c.make_room.new.self.output c.first_head-number.result.number c.as_slice.result.now) c.in_err-delete.field-0.0 c.in_err-delete.ensures ∙ ap (λ (k : LogData). k.output.last) c.make_room.ensures.same))))
 
 pub returns-in_err-delete-clause-log : goal.returns-in_err-delete-clause-log
 returns-in_err-delete-clause-log g c =
     let i = c.self.inside in
-    let p : PlainData = record { vars = i.vars; start = i.store.start; held = i.store.held; waiting = i.store.waiting; opening = i.opening.items; passed = i.passed; given = i.given.items; given_room = vec_capacity i.given - vec_len i.given; written = i.written.items; log = i.log; last = i.last; tickets = i.tickets; stop = i.stop; looks = i.looks; caught_up = i.caught_up } in
+    let p : PlainData = record { vars = i.vars; start = i.store.start; held = i.store.held; waiting = i.store.waiting; opening = i.opening.items; passed = i.passed; given = i.given.items; given_room = vec_capacity i.given - vec_len i.given; written = i.written.items; hinted = i.hinted; told = i.told.items; log = i.log; last = i.last; tickets = i.tickets; stop = i.stop; looks = i.looks; caught_up = i.caught_up } in
     let some : 1 ≤ length i.store.waiting = subst (λ s. 1 ≤ length s.waiting) (sym (state_is c.self.view_is)) c.requires.some in
     let x = some_waits i.store.waiting some in
     let first = first_waits i.store.waiting x.0 x.1 in
@@ -60,7 +62,7 @@ returns-in_err-delete-clause-log g c =
 pub invariant_of-self-2 : goal.invariant_of-self-2
 invariant_of-self-2 g c =
     let i = c.self.inside in
-    let p : PlainData = record { vars = i.vars; start = i.store.start; held = i.store.held; waiting = i.store.waiting; opening = i.opening.items; passed = i.passed; given = i.given.items; given_room = vec_capacity i.given - vec_len i.given; written = i.written.items; log = i.log; last = i.last; tickets = i.tickets; stop = i.stop; looks = i.looks; caught_up = i.caught_up } in
+    let p : PlainData = record { vars = i.vars; start = i.store.start; held = i.store.held; waiting = i.store.waiting; opening = i.opening.items; passed = i.passed; given = i.given.items; given_room = vec_capacity i.given - vec_len i.given; written = i.written.items; hinted = i.hinted; told = i.told.items; log = i.log; last = i.last; tickets = i.tickets; stop = i.stop; looks = i.looks; caught_up = i.caught_up } in
     let some : 1 ≤ length i.store.waiting = subst (λ s. 1 ≤ length s.waiting) (sym (state_is c.self.view_is)) c.requires.some in
     let x = some_waits i.store.waiting some in
     let first = first_waits i.store.waiting x.0 x.1 in
@@ -68,7 +70,8 @@ invariant_of-self-2 g c =
     let held : c.delete_first.new.self.held ≡ i.store.held = c.delete_first.ensures.held ∙ ap (λ (s : StoreData). s.held) c.free_last.ensures.same in
     let waits : c.delete_first.new.self.waiting ≡ drop 1 i.store.waiting = c.delete_first.ensures.waiting ∙ ap (λ (s : StoreData). drop 1 s.waiting) c.free_last.ensures.same in
     subst (λ (w : List Holding × List Holding × List Holding). IsPlain (record p { start = w.0; held = w.1; waiting = w.2; log = c.delete.new.self })) (λ j. (sym begun j, sym held j, sym waits j))
-    (plain_deleted p c.self.invariant x.0 (drop 1 p.waiting) c.delete.new.self first)
+    (plain_deleted p c.self.invariant x.0 (drop 1 p.waiting) c.delete.new.self
+    (same_last (ap (λ (a : LineState). a.last) c.in_ok-delete.ensures.put.state ∙ ap (λ (k : LogData). k.output.last) c.make_room.ensures.same)) first)
 
 pub returns-clause-port : goal.returns-clause-port
 returns-clause-port g c = plain_port _ (invariant_of-self-2 g c)
@@ -76,7 +79,7 @@ returns-clause-port g c = plain_port _ (invariant_of-self-2 g c)
 pub returns-clause-log : goal.returns-clause-log
 returns-clause-log g c =
     let i = c.self.inside in
-    let p : PlainData = record { vars = i.vars; start = i.store.start; held = i.store.held; waiting = i.store.waiting; opening = i.opening.items; passed = i.passed; given = i.given.items; given_room = vec_capacity i.given - vec_len i.given; written = i.written.items; log = i.log; last = i.last; tickets = i.tickets; stop = i.stop; looks = i.looks; caught_up = i.caught_up } in
+    let p : PlainData = record { vars = i.vars; start = i.store.start; held = i.store.held; waiting = i.store.waiting; opening = i.opening.items; passed = i.passed; given = i.given.items; given_room = vec_capacity i.given - vec_len i.given; written = i.written.items; hinted = i.hinted; told = i.told.items; log = i.log; last = i.last; tickets = i.tickets; stop = i.stop; looks = i.looks; caught_up = i.caught_up } in
     let some : 1 ≤ length i.store.waiting = subst (λ s. 1 ≤ length s.waiting) (sym (state_is c.self.view_is)) c.requires.some in
     let x = some_waits i.store.waiting some in
     let first = first_waits i.store.waiting x.0 x.1 in

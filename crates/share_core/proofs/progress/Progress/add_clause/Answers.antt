@@ -24,12 +24,12 @@ returns-clause-after c =
     let making : c.push-2.new.self ≡ m.making ++ record { address = c.args.address; number = c.in_ok-number.number; lits = c.args.lits.now } ∷ [] =
     c.in_ok-push-2.ensures ∙ ap (λ (ls : List Literal). m.making ++ record { address = c.args.address; number = c.in_ok-number.number; lits = ls } ∷ []) c.in_ok-from_slice-2.ensures in
     ap (λ (p : Progress). state_of (data_of c.args.origin.now (record p { cells = c.push.new.self; rings = with_item p.rings c.args.ring (record m { making = c.push-2.new.self; ticket = c.ticket_after-own.result }) }))) after
-    ∙ begin_shown d c.args.ring m c.requires.enabled.0 own (kept_longer d c.requires.kept) c.args.kind c.args.lits.now c.args.address c.in_ok-number.number c.push-2.new.self c.ticket_after-own.result c.push.new.self.items
-    (c.args.self.now.journal ++ Add (record { ring = c.args.ring; number = c.in_ok-number.number; lits = c.args.lits.now; kind = c.args.kind; hints = [] }) ∷ []) c.in_ok-number.ensures.number c.requires.enabled.4 c.ticket_after-own.ensures making cells refl
+    ∙ begin_shown d c.args.ring m c.requires.enabled.0 own (kept_longer d c.requires.kept) c.args.kind c.args.lits.now c.args.hints.now c.args.address c.in_ok-number.number c.push-2.new.self c.ticket_after-own.result c.push.new.self.items
+    (c.args.self.now.journal ++ Add (record { ring = c.args.ring; number = c.in_ok-number.number; lits = c.args.lits.now; kind = c.args.kind; hints = c.args.hints.now }) ∷ []) c.in_ok-number.ensures.number c.requires.enabled.4 c.ticket_after-own.ensures making cells refl
 
 pub returns-clause-logged : goal.returns-clause-logged
 returns-clause-logged c =
-    let x : Addition = record { ring = c.args.ring; number = c.in_ok-number.number; lits = c.args.lits.now; kind = c.args.kind; hints = [] } in
+    let x : Addition = record { ring = c.args.ring; number = c.in_ok-number.number; lits = c.args.lits.now; kind = c.args.kind; hints = c.args.hints.now } in
     let after = c.in_ok-number.ensures.after in
     ap (λ (p : Progress). p.lines) after
     ∙ lines_added c.args.origin.now.formula.clauses c.args.self.now.journal x c.args.self.now.lines c.requires.kept.logged

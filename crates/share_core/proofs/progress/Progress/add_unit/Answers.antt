@@ -16,11 +16,11 @@ returns-clause-after c =
     let after = c.in_ok-note_addition.ensures.after in
     let own : m ≡ get_or d.rings c.args.ring m = c.index_mut-own.ensures.value ∙ ap (λ (p : Progress). get_or p.rings.items c.args.ring m) after in
     ap (λ (p : Progress). state_of (data_of c.args.origin.now (record p { rings = with_item p.rings c.args.ring (record m { ticket = c.ticket_after-own.result }) }))) after
-    ∙ tell_shown d c.args.ring m c.requires.enabled.0 own (kept_longer d c.requires.kept) c.args.kind (c.args.lit ∷ []) c.in_ok-note_addition.field-0 c.ticket_after-own.result
-    (c.args.self.now.journal ++ Add (record { ring = c.args.ring; number = c.in_ok-note_addition.field-0; lits = c.args.lit ∷ []; kind = c.args.kind; hints = [] }) ∷ []) c.in_ok-note_addition.ensures.number c.ticket_after-own.ensures refl
+    ∙ tell_shown d c.args.ring m c.requires.enabled.0 own (kept_longer d c.requires.kept) c.args.kind (c.args.lit ∷ []) c.args.hints.now c.in_ok-note_addition.field-0 c.ticket_after-own.result
+    (c.args.self.now.journal ++ Add (record { ring = c.args.ring; number = c.in_ok-note_addition.field-0; lits = c.args.lit ∷ []; kind = c.args.kind; hints = c.args.hints.now }) ∷ []) c.in_ok-note_addition.ensures.number c.ticket_after-own.ensures refl
 
 pub returns-clause-logged : goal.returns-clause-logged
 returns-clause-logged c =
-    let x : Addition = record { ring = c.args.ring; number = c.in_ok-note_addition.field-0; lits = c.args.lit ∷ []; kind = c.args.kind; hints = [] } in
+    let x : Addition = record { ring = c.args.ring; number = c.in_ok-note_addition.field-0; lits = c.args.lit ∷ []; kind = c.args.kind; hints = c.args.hints.now } in
     subst (λ (p : Progress). Logged (data_of c.args.origin.now (record p { rings = c.args.self.now.rings }))) (sym c.in_ok-note_addition.ensures.after)
     (lines_added c.args.origin.now.formula.clauses c.args.self.now.journal x c.args.self.now.lines c.requires.kept.logged)

@@ -11,5 +11,5 @@ pub returns : goal.returns
 returns c =
     let d : State = state_of (data_of c.args.origin.now c.args.self.now) in
     subst (λ (b : Bool). IfOk c.follows.result (λ yes. yes ≡ b))
-    (five_more (writes d c.args.ring) (may_add d c.args.ring c.args.kind c.args.lits.now) (is_long c.args.lits.now) (is_none (d.cell c.args.address)) (not (c.args.address == 0)) (follows (d.part c.args.ring) c.args.lits.now)
-    (sym c.may_build.ensures ∙ c.if-not-may_build.false)) (c.follows.ensures c.args.origin.now)
+    (five_more (writes d c.args.ring) (may_add d c.args.ring c.args.kind c.args.lits.now) (is_long c.args.lits.now) (is_none (d.cell c.args.address)) (not (c.args.address == 0)) (follows d.opening.hinted (d.part c.args.ring) c.args.lits.now c.args.hints.now)
+    (sym c.may_build.ensures ∙ c.if-not-may_build.false)) c.follows.ensures

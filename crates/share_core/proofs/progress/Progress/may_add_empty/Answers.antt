@@ -9,4 +9,4 @@ use Rattle.share_core.proofs.progress.Progress.may_add_empty.Goals as goal
 pub returns : goal.returns
 returns c =
     let d : State = state_of (data_of c.args.origin.now c.args.self.now) in
-    subst (λ (b : Bool). IfOk c.follows.result (λ yes. yes ≡ b)) (one_more (writes d c.args.ring) (follows (d.part c.args.ring) []) (sym c.writes.ensures ∙ c.if-not-writes.false)) (c.follows.ensures c.args.origin.now)
+    subst (λ (b : Bool). IfOk c.follows.result (λ yes. yes ≡ b)) (one_more (writes d c.args.ring) (follows d.opening.hinted (d.part c.args.ring) [] c.args.hints.now) (sym c.writes.ensures ∙ c.if-not-writes.false)) c.follows.ensures

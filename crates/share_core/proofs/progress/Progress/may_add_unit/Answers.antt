@@ -10,4 +10,4 @@ pub returns : goal.returns
 returns c =
     let d : State = state_of (data_of c.args.origin.now c.args.self.now) in
     subst (λ (b : Bool). IfOk c.follows.result (λ yes. yes ≡ b))
-    (two_more (writes d c.args.ring) (may_tell d c.args.ring c.args.kind (c.args.lit ∷ [])) (follows (d.part c.args.ring) (c.args.lit ∷ [])) (sym c.may_tell.ensures ∙ c.if-not-may_tell.false)) (c.follows.ensures c.args.origin.now)
+    (two_more (writes d c.args.ring) (may_tell d c.args.ring c.args.kind (c.args.lit ∷ [])) (follows d.opening.hinted (d.part c.args.ring) (c.args.lit ∷ []) c.args.hints.now) (sym c.may_tell.ensures ∙ c.if-not-may_tell.false)) c.follows.ensures

@@ -16,3 +16,6 @@ returns-clause-steps c = (enabled_from (state_of (data_of c.args.origin.now c.ar
 pub returns-clause-kept : goal.returns-clause-kept
 returns-clause-kept c = kept_after (data_of c.args.origin.now c.args.self.now) (data_of c.args.origin.now c.make.new.self) c.args.event.now c.requires
     (enabled_from (state_of (data_of c.args.origin.now c.args.self.now)) c.args.event.now (sym c.in_ok-is_enabled.ensures ∙ c.if-not-branch.false)) c.in_ok-make.ensures.after c.in_ok-make.ensures.logged c.in_ok-make.ensures.wide
+
+pub is_enabled-requires : goal.is_enabled-requires
+is_enabled-requires c = c.requires.sound.log.room

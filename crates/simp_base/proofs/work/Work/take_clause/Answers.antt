@@ -2,9 +2,10 @@ use Rattle.std.proofs.Common.{◌≡◌, ◌+◌, ap, sym, ◌∙◌, subst, Lis
 use Rattle.sat_words.specs.Literal.{Literal}
 use Rattle.drat_text.specs.LineState.{LineState}
 use Rattle.drat_text.specs.LineOut.{PutLine, deleted_line}
-use Rattle.simp_base.specs.WorkState.{WorkState}
+use Rattle.simp_base.specs.WorkState.{WorkState, unit_lits}
 use Rattle.simp_base.specs.Calls.{Deleted}
 use Rattle.simp_base.proofs.Keeping.{work_deleted, deleted_by, kept_not_put_at}
+use Rattle.simp_base.proofs.Held.{held_less}
 use Rattle.simp_base.proofs.work.Work.take_clause.Goals as goal
 
 pub unreachable-requires : goal.unreachable-requires
@@ -13,7 +14,7 @@ unreachable-requires g c = c.in_default.ensures.none c.requires.alive.0 (subst (
 pub invariant_of-self : goal.invariant_of-self
 invariant_of-self g c =
     let i = c.self.inside in
-    let w : WorkState = record { vars = i.vars; unheld = i.unheld; clauses = i.clauses.clauses; units = i.units.units; stack = i.stack; ended = i.ended; output = g.L.LineOut.told i.output } in
+    let w : WorkState = record { vars = i.vars; unheld = i.unheld; clauses = i.clauses.clauses; units = unit_lits i.units.items; stack = i.stack; ended = i.ended; output = g.L.LineOut.told i.output } in
     let b = g.L.LineOut.told c.del.new.self in
     let put = c.in-Ok.ensures.put in
     let last : b.last ≡ w.output.last = ap (λ (s : LineState). s.last) put.state in
@@ -23,6 +24,7 @@ invariant_of-self g c =
       c.remove.ensures.codes ∙ c.self.invariant.2,
       c.self.invariant.3,
       ap (λ n. n + 1) c.self.invariant.4 ∙ sym (ap (λ (s : LineState). s.entries) put.state),
+      held_less w.clauses c.self.invariant.0.numbers c.args.number c.requires.alive.0 alive c.requires.alive.2 c.remove.new.self.clauses c.remove.ensures.clauses i.units.items c.self.invariant.5,
     )
 
 pub returns-in-Ok-clause-work : goal.returns-in-Ok-clause-work
@@ -31,7 +33,7 @@ returns-in-Ok-clause-work g c = (invariant_of-self g c).0
 pub returns-in-Ok-clause-deleted : goal.returns-in-Ok-clause-deleted
 returns-in-Ok-clause-deleted g c =
     let i = c.self.inside in
-    let w : WorkState = record { vars = i.vars; unheld = i.unheld; clauses = i.clauses.clauses; units = i.units.units; stack = i.stack; ended = i.ended; output = g.L.LineOut.told i.output } in
+    let w : WorkState = record { vars = i.vars; unheld = i.unheld; clauses = i.clauses.clauses; units = unit_lits i.units.items; stack = i.stack; ended = i.ended; output = g.L.LineOut.told i.output } in
     let b = g.L.LineOut.told c.del.new.self in
     let clause = c.in-Some.clause.now in
     let put : PutLine w.output b (deleted_line w.output c.args.number clause) = subst (λ (x : List Literal). PutLine w.output b (deleted_line w.output c.args.number x)) c.lits.ensures.value c.in-Ok.ensures.put in
@@ -41,7 +43,7 @@ returns-in-Ok-clause-deleted g c =
 pub invariant_of-self-in-Err : goal.invariant_of-self-in-Err
 invariant_of-self-in-Err g c =
     let i = c.self.inside in
-    let w : WorkState = record { vars = i.vars; unheld = i.unheld; clauses = i.clauses.clauses; units = i.units.units; stack = i.stack; ended = i.ended; output = g.L.LineOut.told i.output } in
+    let w : WorkState = record { vars = i.vars; unheld = i.unheld; clauses = i.clauses.clauses; units = unit_lits i.units.items; stack = i.stack; ended = i.ended; output = g.L.LineOut.told i.output } in
     let b = g.L.LineOut.told c.del.new.self in
     let kept = kept_not_put_at w b (deleted_line w.output c.args.number c.lits.result.now) c.in-Err.stop c.self.invariant.0 c.in-Err.ensures.put in (
       kept.0,
@@ -49,6 +51,7 @@ invariant_of-self-in-Err g c =
       c.self.invariant.2,
       c.self.invariant.3,
       c.self.invariant.4 ∙ sym kept.2,
+      c.self.invariant.5,
     )
 
 pub returns-in-Err-clause-work : goal.returns-in-Err-clause-work

@@ -1,0 +1,6 @@
+use Rattle.std.proofs.Common.{◌≡◌, take}
+use Rattle.share_core.specs.State.{unit_lits}
+use Rattle.test_core.proofs.opener.lits_of.Given as goal
+
+abbrev pub invariant-loop-unit : goal.invariant-loop-unit
+invariant-loop-unit l = l.lits.items ≡ unit_lits (take l.unit-index l.units)

@@ -1,0 +1,6 @@
+use Rattle.std.proofs.Common.{true}
+use Rattle.test_ports.proofs.Sample.{sample_port}
+use Rattle.test_ports.proofs.port.SamplePortPort.draw.Goals as goal
+
+pub returns-clause-port : goal.returns-clause-port
+returns-clause-port c = sample_port c.args.self.now.stage true

@@ -14,7 +14,8 @@ use Rattle.ring_trail.specs.declared.step.TrailStep.{TrailStep}
 use Rattle.ring_trail.specs.TrailData.{TrailData, IsTrail, lit_at, level_at, reason_at}
 use Rattle.ring_trail.specs.Reasoned.{IsForced, IsSeen, IsDecision, IsReasoned, WasUnit}
 use Rattle.analyze.specs.Removable.{IsReasonOf}
-use Rattle.analyze.specs.Noting.{IsToldAt, IsCause, IsBacked}
+use Rattle.analyze.specs.HintOrder.{IsToldAt, IsCause}
+use Rattle.analyze.specs.Noting.{IsBacked}
 use Rattle.analyze.proofs.Chains.{clause_held}
 use Rattle.analyze.proofs.Judging.{one_reason}
 use Rattle.analyze.proofs.Parts.{own_opposite}

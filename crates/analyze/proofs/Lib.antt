@@ -14,6 +14,7 @@ pub mod Sorting
 pub mod Causes
 pub mod Spreading
 pub mod Climbing
+pub mod Ordering
 pub mod Tracing
 pub mod Supporting
 pub mod Starting

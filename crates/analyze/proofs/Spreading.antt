@@ -12,7 +12,8 @@ use Rattle.ring_trail.specs.TrailData.{TrailData, IsTrail, lit_at, level_at}
 use Rattle.ring_trail.specs.Reasoned.{WasUnit}
 use Rattle.analyze.specs.Removable.{RestsOn}
 use Rattle.analyze.specs.MarksData.{MarksData}
-use Rattle.analyze.specs.Noting.{IsCause, IsBacked, note_at, is_found_note, is_found_at, IsNoting, HasNoted, IsStarted, IsClosedAt, IsBelowNoted, HasNotedAll}
+use Rattle.analyze.specs.HintOrder.{IsCause, IsUsed}
+use Rattle.analyze.specs.Noting.{IsBacked, note_at, is_found_note, is_found_at, IsNoting, HasNoted, IsStarted, IsClosedAt, IsBelowNoted, HasNotedAll}
 use Rattle.analyze.specs.declared.tracer.Note.{Note}
 use Rattle.analyze.specs.declared.tracer.Note.TheVariants.{Given, Noted}
 use Rattle.analyze.proofs.Judging.{one_reason}
@@ -25,6 +26,7 @@ pub record IsSpread (s : PortState) (steps : List TrailStep) (vars : ℕ) (old m
   pub started : IsStarted s steps vars m
   pub kept : (p : ℕ) → is_found_at old.values p ≡ true → note_at m.values p ≡ note_at old.values p
   pub only : (p : ℕ) → is_found_at m.values p ≡ true → (is_found_at old.values p ≡ true) ⊎ ((note_at m.values p ≡ Noted) × IsBelowNoted old.values p)
+  pub used : (p : ℕ) → note_at m.values p ≡ Noted → (note_at old.values p ≡ Noted) ⊎ IsUsed s steps (λ q. note_at m.values q ≡ Noted) p
   pub closed : (p : ℕ) → is_member nat_eq (take i m.touched) p ≡ true → note_at m.values p ≡ Noted → IsClosedAt s steps m.values p
 
 -- a noted place is at level 0 or has a reason
@@ -43,6 +45,7 @@ module _ (s : PortState) (t : TrailData) (old a : MarksData Note) (i : ℕ) (sha
     noting = x.started.noting;
     kept = x.kept;
     only = x.only;
+    used = x.used;
     closed = λ p n. x.closed p (ap (λ (xs : List ℕ). is_member nat_eq xs p) (take_all i a.touched le) ∙ x.started.noting.listed p ∙ ap is_found_note n) n;
     backed = λ p n. backed_noted s t.steps t.vars a p x.started n;
   }
@@ -65,6 +68,7 @@ module _ (s : PortState) (t : TrailData) (old a : MarksData Note) (i : ℕ) (sha
       started = x.started;
       kept = x.kept;
       only = x.only;
+      used = x.used;
       closed = λ p y n. elim (next_or_before p y) as (λ _. IsClosedAt s t.steps a.values p) [
         | inl before ↦ x.closed p before n
         | inr e ↦ absurd (not_noted (ap (note_at a.values) (sym e) ∙ n))
@@ -124,6 +128,9 @@ module _ (s : PortState) (t : TrailData) (old a : MarksData Note) (i : ℕ) (sha
       grown : (p : ℕ) → is_found_at a.values p ≡ true → is_found_at b.values p ≡ true
       grown p y = ap is_found_note (h.kept p y) ∙ y
 
+      still : (p : ℕ) → note_at a.values p ≡ Noted → note_at b.values p ≡ Noted
+      still p m = h.kept p (ap is_found_note m) ∙ m
+
       pub IsSpread-noted : IsSpread s t.steps t.vars old b (i + 1)
       IsSpread-noted = record {
         started = started;
@@ -134,6 +141,13 @@ module _ (s : PortState) (t : TrailData) (old a : MarksData Note) (i : ℕ) (sha
             | inr new ↦ inr (h.kept p was ∙ new.0, new.1)
           ]
           | inr new ↦ inr (new.0, below p (new_before p y new.1))
+        ];
+        used = λ p m. elim (h.only p (ap is_found_note m)) as (λ _. (note_at old.values p ≡ Noted) ⊎ IsUsed s t.steps (λ q. note_at b.values q ≡ Noted) p) [
+          | inl was ↦ elim (x.used p (sym (h.kept p was) ∙ m)) as (λ _. (note_at old.values p ≡ Noted) ⊎ IsUsed s t.steps (λ q. note_at b.values q ≡ Noted) p) [
+            | inl older ↦ inl older
+            | inr u ↦ inr (record { place = u.place; later = u.later; has_property = still u.place u.has_property; lits = u.lits; cause = u.cause; falsifies = u.falsifies })
+          ]
+          | inr new ↦ inr (record { place = here; later = new_before p (ap is_found_note m) new.1; has_property = still here n; lits = c; cause = cause; falsifies = new.1 })
         ];
         closed = λ p y m d cd q lq f.
             (let first : take (i + 1) b.touched ≡ take (i + 1) a.touched = ap (take (i + 1)) h.touched ∙ take-append-le (i + 1) a.touched h.more (omega arith) in

@@ -12,7 +12,8 @@ use Rattle.ring_trail.specs.TrailData.{TrailData, IsTrail, FalseBefore, IsFalseO
 use Rattle.ring_trail.specs.Reasoned.{Held, WasUnit}
 use Rattle.analyze.specs.Levels.{clause_level}
 use Rattle.analyze.specs.Tracing.{CanTraceClause, CanTraceLiteral}
-use Rattle.analyze.specs.Noting.{IsCause, IsBacked, CanTrace}
+use Rattle.analyze.specs.HintOrder.{IsCause}
+use Rattle.analyze.specs.Noting.{IsBacked, CanTrace}
 use Rattle.analyze.proofs.Chains.{has-one}
 use Rattle.analyze.proofs.Causes.{falsifier_before}
 use Rattle.analyze.proofs.Judging.{one_reason}

@@ -8,7 +8,8 @@ use Rattle.ring_port.specs.PortState.{PortState, clause_at}
 use Rattle.ring_trail.specs.TrailData.{TrailData, lit_at}
 use Rattle.analyze.specs.Removable.{RestsOn}
 use Rattle.analyze.specs.MarksData.{MarksData, all_blank}
-use Rattle.analyze.specs.Noting.{note_at, is_found_note, is_found_at, IsNoting, HasNoted, IsStarted, HasNotedAll, IsStartSet, CanTrace}
+use Rattle.analyze.specs.HintOrder.{IsUsed}
+use Rattle.analyze.specs.Noting.{note_at, is_found_note, is_found_at, IsNoting, HasNoted, IsStarted, HasNotedAll, AreUsed, IsStartSet, CanTrace}
 use Rattle.analyze.specs.declared.tracer.Note.{Note}
 use Rattle.analyze.specs.declared.tracer.Note.TheVariants.{Free, Given, Noted}
 use Rattle.analyze.proofs.Chains.{has-map}
@@ -49,6 +50,13 @@ module _ (s : PortState) (t : TrailData) (line c : List Literal) (can : CanTrace
   noted_in_clause p e = elim (h.only p (ap is_found_note e)) as (λ _. has c (opposite (lit_at t.steps p)) ≡ true) [
     | inl was ↦ absurd (not_both (note_at b.values p) (h.kept p was ∙ (first_given p was).0) e)
     | inr new ↦ new.1
+  ]
+
+  -- with what was noted behind the clause's own places each is used
+  pub AreUsed-from : (d : MarksData Note) → HasNotedAll s t.steps t.vars b d → AreUsed s t.steps d.values c
+  AreUsed-from d all p e = elim (all.used p e) as (λ _. (has c (opposite (lit_at t.steps p)) ≡ true) ⊎ IsUsed s t.steps (λ q. note_at d.values q ≡ Noted) p) [
+    | inl first ↦ inl (noted_in_clause p first)
+    | inr u ↦ inr u
   ]
 
   pub IsStarted-from : IsStarted s t.steps t.vars b

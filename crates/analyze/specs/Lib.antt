@@ -10,4 +10,5 @@ pub mod Lemma
 pub mod ReasonSide
 pub mod AnalysisData
 pub mod Tracing
+pub mod HintOrder
 pub mod Noting

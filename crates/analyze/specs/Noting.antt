@@ -8,8 +8,9 @@ use Rattle.ring_port.specs.PortState.{PortState, held_at, lits_at, clause_at}
 use Rattle.ring_trail.specs.declared.step.TrailStep.{TrailStep}
 use Rattle.ring_trail.specs.TrailData.{FalseBefore, lit_at, level_at, reason_at}
 use Rattle.analyze.specs.MarksData.{MarksData}
-use Rattle.analyze.specs.Removable.{IsReasonOf, RestsOn}
+use Rattle.analyze.specs.Removable.{RestsOn}
 use Rattle.analyze.specs.Tracing.{IsSupport}
+use Rattle.analyze.specs.HintOrder.{IsCause, IsUsed}
 use Rattle.analyze.specs.declared.tracer.Note.{Note}
 use Rattle.analyze.specs.declared.tracer.Note.TheVariants.{Free, Given, Noted}
 use Rattle.analyze.specs.declared.tracer.Source.{Source}
@@ -26,16 +27,6 @@ source_lits s (Clause c) = lits_at s c.address
 abbrev pub IsSource : PortState → Source → Type 0
 IsSource s (Told l n) = Contains s.told (l, n)
 IsSource s (Clause c) = IsSome (held_at s c.address)
-
--- the place is at level 0, and the port knows a number of its unit
-pub record IsToldAt (s : PortState) (steps : List TrailStep) (p : ℕ) : Type 0 where
-  pub level : level_at steps p ≡ 0
-  pub number : ℕ
-  pub told : Contains s.told (lit_at steps p, number)
-
--- the clause that shows why the literal at the place is true: its unit if it is told, else its reason
-abbrev pub IsCause : PortState → List TrailStep → ℕ → List Literal → Type 0
-IsCause s steps p c = (IsToldAt s steps p × (c ≡ lit_at steps p ∷ [])) ⊎ ((IsToldAt s steps p → ⊥) × IsReasonOf (clause_at s) steps p c)
 
 -- the place is at level 0, or has a reason
 abbrev pub IsBacked : List TrailStep → ℕ → Type 0
@@ -90,13 +81,18 @@ pub record IsBelowNoted (vs : List Note) (p : ℕ) : Type 0 where
   pub before : p < place
   pub noted : note_at vs place ≡ Noted
 
--- noted are those that were, and earlier places; the causes of each are at hand
+-- noted are those that were, and earlier places that later noted ones use; the causes of each are at hand
 pub record HasNotedAll (s : PortState) (steps : List TrailStep) (vars : ℕ) (old new : MarksData Note) : Type 0 where
   pub noting : IsNoting steps vars new
   pub kept : (p : ℕ) → is_found_at old.values p ≡ true → note_at new.values p ≡ note_at old.values p
   pub only : (p : ℕ) → is_found_at new.values p ≡ true → (is_found_at old.values p ≡ true) ⊎ ((note_at new.values p ≡ Noted) × IsBelowNoted old.values p)
+  pub used : (p : ℕ) → note_at new.values p ≡ Noted → (note_at old.values p ≡ Noted) ⊎ IsUsed s steps (λ q. note_at new.values q ≡ Noted) p
   pub closed : (p : ℕ) → note_at new.values p ≡ Noted → IsClosedAt s steps new.values p
   pub backed : (p : ℕ) → note_at new.values p ≡ Noted → IsBacked steps p
+
+-- each noted place makes a literal of the clause false, or one of the cause of a later noted place
+abbrev pub AreUsed : PortState → List TrailStep → List Note → List Literal → Type 0
+AreUsed s steps vs c = (p : ℕ) → note_at vs p ≡ Noted → (has c (opposite (lit_at steps p)) ≡ true) ⊎ IsUsed s steps (λ q. note_at vs q ≡ Noted) p
 
 -- a set of literals to start from: it has those of the given places, those of the noted places have no value yet, and with those the
 -- clause is false

@@ -1,14 +1,16 @@
 //! The calls of conflict analysis: the walk, minimisation, the lemma, the variables to bump and the hints. The buffers are kept from
 //! conflict to conflict. Each call must take its marks away.
-ghost use Rattle.std.specs.Prelude.{◌≡◌, ◌<◌, ◌≤◌, ◌^◌, [], true, All, IfOk, IsSome};
+ghost use Rattle.std.specs.Prelude.{◌≡◌, ◌<◌, ◌≤◌, ◌^◌, ◌∷◌, [], true, List, All, IfOk, IsSome};
 ghost use Rattle.analyze.specs.AnalysisData.{IsVariable};
 ghost use Rattle.ring_port.specs.PortState.{held_at, lits_at};
 ghost use Rattle.ring_trail.specs.TrailData.{IsFalseClause, IsFalseOn};
 ghost use Rattle.ring_trail.specs.Reasoned.{IsReasoned};
 ghost use Rattle.ring_port.specs.PortState.{clause_at};
 ghost use Rattle.ring_port.specs.Port.{AreHints};
+ghost use Rattle.sat_words.specs.Literal.{Literal};
 ghost use Rattle.sat_words.specs.Clause.{has};
 ghost use Rattle.analyze.specs.Tracing.{CanTraceClause, CanTraceLiteral};
+ghost use Rattle.analyze.specs.HintOrder.{IsCause, AreInTrailOrder};
 ghost use Rattle.analyze.specs.Levels.{clause_level};
 ghost use Rattle.analyze.specs.Lemma.{IsConclusion};
 ghost use Rattle.analyze.specs.ReasonSide.{AreAnalyzed};
@@ -122,6 +124,7 @@ impl Analysis {
         ensures same { P.state port.new ≡ P.state port.old }
         ensures kept { self.new ≡ record self.old { hints = self.new.hints } }
         ensures hints { AreHints (P.state port.old) line.now self.new.hints }
+        ensures order { (P.state port.old).hinted ≡ true → AreInTrailOrder (P.state port.old) trail.now.steps (lits_at (P.state port.old) c.address) self.new.hints }
     {
         trace_clause(port, trail, line, c, &mut self.tracer);
     }
@@ -134,6 +137,8 @@ impl Analysis {
         ensures same { P.state port.new ≡ P.state port.old }
         ensures kept { self.new ≡ record self.old { hints = self.new.hints } }
         ensures hints { AreHints (P.state port.old) line.now self.new.hints }
+        ensures order { (P.state port.old).hinted ≡ true
+            → (c : List Literal) × IsCause (P.state port.old) trail.now.steps place c × AreInTrailOrder (P.state port.old) trail.now.steps c self.new.hints }
     {
         trace_literal(port, trail, line, place, &mut self.tracer);
     }
@@ -148,6 +153,7 @@ impl Analysis {
         ensures same { P.state port.new ≡ P.state port.old }
         ensures kept { self.new ≡ record self.old { hints = self.new.hints } }
         ensures hints { AreHints (P.state port.old) [] self.new.hints }
+        ensures order { (P.state port.old).hinted ≡ true → AreInTrailOrder (P.state port.old) trail.now.steps (unit ∷ []) self.new.hints }
     {
         trace_unit(port, trail, unit, &mut self.tracer);
     }
@@ -169,6 +175,7 @@ impl Analysis {
         ensures analyzed { 0 < clause_level trail.now.steps (lits_at (P.state port.old) conflict.address)
             → AreAnalyzed (clause_at (P.state port.old)) trail.now.steps (lits_at (P.state port.old) conflict.address) self.new.lits self.new.analyzed }
         ensures hints { AreHints (P.state port.old) self.new.lits self.new.hints }
+        ensures order { (P.state port.old).hinted ≡ true → AreInTrailOrder (P.state port.old) trail.now.steps (lits_at (P.state port.old) conflict.address) self.new.hints }
         ensures none_analyzed { result ≡ Conclusion.Empty → self.new.analyzed ≡ [] }
     {
         let level = level_of_clause(port, trail, conflict);

@@ -11,7 +11,7 @@
 //! 5. If the log has hints, the tracer finds those of the lemma, and of other lines that follow from the trail.
 //!
 //! Of specs/, `Walk` defines the walk and its end, `Removable` what minimisation removes, `Lemma` what is learned,
-//! `ReasonSide` what is bumped and `Tracing` what hints rest on.
+//! `ReasonSide` what is bumped, `Tracing` what hints rest on and `HintOrder` in which order they stand.
 #![tactic(auto)]
 
 mod analysis;

@@ -2,7 +2,7 @@
 //! clause that is false the tracer goes back along the trail, from each place to the others of its reason. It stops at the places
 //! that the line's negation gives. The places that it noted, in the order of the trail, are the order of the hints: each clause
 //! must have just one literal that isn't false yet.
-ghost use Rattle.std.specs.Prelude.{◌≡◌, ◌⊎◌, ◌<◌, ◌≤◌, ◌+◌, ◌∷◌, [], ℕ, Bool, true, IsSome, Contains, MatchOption, Some, length};
+ghost use Rattle.std.specs.Prelude.{◌≡◌, ◌⊎◌, ◌<◌, ◌≤◌, ◌+◌, ◌∷◌, [], ℕ, Bool, true, List, IsSome, Contains, MatchOption, Some, length};
 ghost use Rattle.std.specs.List.Sorted.{IsNonDecreasing};
 ghost use Rattle.std.specs.Vec.{vec_capacity};
 ghost use Rattle.sat_words.specs.Literal.{Literal, opposite};
@@ -14,7 +14,8 @@ ghost use Rattle.ring_trail.specs.TrailData.{IsTrail, IsFalseOn, level_at, lit_a
 ghost use Rattle.ring_trail.specs.Reasoned.{IsReasoned, WasUnit};
 ghost use Rattle.analyze.specs.MarksData.{all_blank};
 ghost use Rattle.analyze.specs.Tracing.{CanTraceClause, CanTraceLiteral};
-ghost use Rattle.analyze.specs.Noting.{source_lits, IsSource, IsToldAt, IsCause, IsBacked, note_at, is_found_note, IsNoting, HasNoted, IsStarted, HasNotedAll, IsClosedAt, IsStartSet, CanTrace};
+ghost use Rattle.analyze.specs.HintOrder.{IsToldAt, IsCause, AreInTrailOrder};
+ghost use Rattle.analyze.specs.Noting.{source_lits, IsSource, IsBacked, note_at, is_found_note, IsNoting, HasNoted, IsStarted, HasNotedAll, IsClosedAt, AreUsed, IsStartSet, CanTrace};
 
 use crate::marks::Marks;
 use ring_port::Port;
@@ -206,12 +207,14 @@ fn write_hints<P: Port>(
     requires noting { IsNoting trail.now.steps trail.now.vars table.now }
     requires closed { (p : ℕ) → note_at table.now.values p ≡ Note.Noted → IsClosedAt (P.state port.old) trail.now.steps table.now.values p }
     requires backed { (p : ℕ) → note_at table.now.values p ≡ Note.Noted → IsBacked trail.now.steps p }
+    requires used { AreUsed (P.state port.old) trail.now.steps table.now.values (source_lits (P.state port.old) last.now) }
     requires rising { IsNonDecreasing table.now.touched }
     requires last { IsSource (P.state port.old) last.now }
     requires room { trail.now.vars < vec_capacity hints.old }
     ensures same { P.state port.new ≡ P.state port.old }
     ensures hints { (A : Literal → Bool) → IsStartSet trail.now.steps table.now.values (source_lits (P.state port.old) last.now) A
         → hinted_from (numbered (known_at (P.state port.old))) A hints.new.items ≡ true }
+    ensures order { AreInTrailOrder (P.state port.old) trail.now.steps (source_lits (P.state port.old) last.now) hints.new.items }
     ensures room { vec_capacity hints.new ≡ vec_capacity hints.old }
 {
     hints.clear();
@@ -236,6 +239,7 @@ fn trace<P: Port>(port: &mut P, trail: &Trail, line: &[Lit], last: &Source, trac
     requires room { trail.now.vars < vec_capacity tracer.old.hints }
     ensures same { P.state port.new ≡ P.state port.old }
     ensures hints { hinted (numbered (known_at (P.state port.old))) line.now tracer.new.hints.items ≡ true }
+    ensures order { AreInTrailOrder (P.state port.old) trail.now.steps (source_lits (P.state port.old) last.now) tracer.new.hints.items }
     ensures blank { tracer.new.table ≡ tracer.old.table }
     ensures room { vec_capacity tracer.new.hints ≡ vec_capacity tracer.old.hints }
 {
@@ -263,6 +267,7 @@ pub(crate) fn trace_clause<P: Port>(
     requires room { trail.now.vars < vec_capacity tracer.old.hints }
     ensures same { P.state port.new ≡ P.state port.old }
     ensures hints { AreHints (P.state port.old) line.now tracer.new.hints.items }
+    ensures order { (P.state port.old).hinted ≡ true → AreInTrailOrder (P.state port.old) trail.now.steps (lits_at (P.state port.old) c.address) tracer.new.hints.items }
     ensures blank { tracer.new.table ≡ tracer.old.table }
     ensures room { vec_capacity tracer.new.hints ≡ vec_capacity tracer.old.hints }
 {
@@ -287,6 +292,8 @@ pub(crate) fn trace_literal<P: Port>(
     requires room { trail.now.vars < vec_capacity tracer.old.hints }
     ensures same { P.state port.new ≡ P.state port.old }
     ensures hints { AreHints (P.state port.old) line.now tracer.new.hints.items }
+    ensures order { (P.state port.old).hinted ≡ true
+        → (c : List Literal) × IsCause (P.state port.old) trail.now.steps place c × AreInTrailOrder (P.state port.old) trail.now.steps c tracer.new.hints.items }
     ensures blank { tracer.new.table ≡ tracer.old.table }
     ensures room { vec_capacity tracer.new.hints ≡ vec_capacity tracer.old.hints }
 {
@@ -309,6 +316,7 @@ pub(crate) fn trace_unit<P: Port>(port: &mut P, trail: &Trail, unit: Lit, tracer
     requires room { trail.now.vars < vec_capacity tracer.old.hints }
     ensures same { P.state port.new ≡ P.state port.old }
     ensures hints { AreHints (P.state port.old) [] tracer.new.hints.items }
+    ensures order { (P.state port.old).hinted ≡ true → AreInTrailOrder (P.state port.old) trail.now.steps (unit ∷ []) tracer.new.hints.items }
     ensures blank { tracer.new.table ≡ tracer.old.table }
     ensures room { vec_capacity tracer.new.hints ≡ vec_capacity tracer.old.hints }
 {

@@ -1,6 +1,6 @@
-//! `gimsatul [--threads N] [--conflicts N] [--round K] [--words N] [--seed N] [--proof PATH] [--binary] [--lrat] [--no-simplify] [--add] [--check] [--make N] [FILE]`
+//! `gimsatul [--threads N] [--conflicts N] [--round K] [--words N] [--slots N] [--seed N] [--walk N] [--proof PATH] [--binary] [--lrat] [--no-simplify] [--add] [--check] [--make N] [FILE]`
 //! reads a formula in DIMACS CNF from the file, or from standard input if no file is given, or makes one, decides it by rings on
-//! threads of their own, prints the answer, and writes a DRAT proof to the path.
+//! threads of their own, prints the answer, and writes the proof to the path.
 //! `gimsatul` of `top_call` is the whole of it, over any files and streams; `main` gives it the real ones.
 #![tactic(auto)]
 

@@ -13,7 +13,7 @@ pub const LEARNED_PER_REDUCTION: u64 = 2000;
 /// Why a clause was added.
 #[derive(Clone, Copy, PartialEq, Eq, Debug)]
 pub enum Kind {
-    /// The ruler simplified the formula, before the rings ran.
+    /// The ruler simplified the formula, before a round of the rings.
     Ruler,
     /// A ring learned it from a conflict.
     Learn,

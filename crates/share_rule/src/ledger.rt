@@ -20,7 +20,7 @@ pub trait Ledger {
     /// How many entries it has, the last number given, its state, the free words, and its lines if it keeps them.
     ghost account: { Self → Account };
 
-    /// What its sink tells, and whether it keeps its lines.
+    /// How it spells its lines, what its sink tells, and whether it keeps the lines.
     ghost origin: { Self → BookOrigin };
 
     /// Since this origin its sink has come to stand for this formula and the lines of this journal.

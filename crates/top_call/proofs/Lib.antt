@@ -5,7 +5,7 @@ pub mod Checks
 pub mod Lawful
 pub mod CommandLine
 pub mod StatusLemmas
-pub mod Shown
+pub mod LratSteps
 pub mod Promised
 pub mod Models
 pub mod Satisfied

@@ -9,6 +9,7 @@ use Rattle.rup_model.specs.Log.{Refutes}
 use Rattle.rup_model.specs.NumberedLines.{numbered_lines}
 use Rattle.rup_model.proofs.Lines.{numbered_lines_lines}
 use Rattle.sat_words.specs.declared.line.ProofFormat.{ProofFormat}
+use Rattle.drat_text.specs.Text.{CanBeSpelled}
 use Rattle.drat_text.specs.Spelling.{proof_bytes}
 use Rattle.log_book.specs.Kept.{HoldsText}
 use Rattle.dimacs_read.specs.Input.{Reads}
@@ -21,7 +22,7 @@ use Rattle.top_call.specs.Run.{Call, Writer, text_of, writer_of}
 use Rattle.top_call.specs.Journaled.{HoldsLog}
 use Rattle.top_call.specs.Statuses.{Answers, HasModel, Statuses, search_in}
 use Rattle.top_call.specs.Promise.{unless_made, asked_text, HasModelOf, HasProofOf, Promise}
-use Rattle.top_call.proofs.Shown.{are_shown}
+use Rattle.top_call.proofs.LratSteps.{is_lrat_proof}
 use Rattle.top_call.proofs.StatusLemmas.{given}
 
 -- a plan has the format that the words ask for
@@ -65,7 +66,8 @@ module _ {W : Type 0} (faults : W → ℕ) (written flushed : W → Option (List
         no_model = a.decided.holds.no_model;
         lines = numbered_lines F.clauses J;
         refutes = subst (Refutes F.clauses) (sym (numbered_lines_lines F.clauses J)) a.decided.holds.refuted;
-        shown = λ q. are_shown F.clauses J a.started.journal_stands.fits (a.started.journal_stands.hinted q);
+        named = subst CanBeSpelled (sym (numbered_lines_lines F.clauses J)) a.started.journal_stands.spelled;
+        hinted = λ q. is_lrat_proof F.clauses J a.started.journal_stands.fits (a.started.journal_stands.hinted q);
         written = whole_log faults written flushed proof format F.clauses J a.started.searched (subst (λ (p : Option Writer). IsSomeAnd p (HoldsLog format F.clauses J a.started.searched)) is a.started.log) (subst (λ (p : Option Writer). IsSomeAnd p (λ writer. writer.faults ≡ 0)) is a.quiet.proof);
       }))
 

@@ -12,6 +12,6 @@ pub mod Occurring
 pub mod Concluded
 pub mod Tallied
 pub mod Outcome
-pub mod ShownLines
+pub mod LratProof
 pub mod Statuses
 pub mod Promise

@@ -219,12 +219,12 @@ abbrev pub has_two_formulas : Command → Bool
 has_two_formulas command = is_some command.make && is_some command.file
 
 -- the proof is to have hints, and also to be in binary or to have lines for which there are none
-abbrev pub has_other_proof : Command → Bool
-has_other_proof command = command.lrat && (command.add || command.binary)
+abbrev pub lrat_clashes : Command → Bool
+lrat_clashes command = command.lrat && (command.add || command.binary)
 
 -- the command, unless it asks for two things that exclude each other
 abbrev pub unless_clashing : Command → Option Command
-unless_clashing command = if has_two_formulas command || has_other_proof command then None else Some command
+unless_clashing command = if has_two_formulas command || lrat_clashes command then None else Some command
 
 -- the command, unless `clap` refuses the arguments with an error of some kind
 abbrev pub unless_refused : Kinds → Command → Option Command

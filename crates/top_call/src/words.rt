@@ -4,7 +4,7 @@ ghost use Rattle.clap.specs.Words.{app_of, found_of, rows_of};
 ghost use Rattle.clap.specs.declared.error.kind.ErrorKind.TheVariants.{OutOfMemory};
 ghost use Rattle.top_call.specs.Ends.{IsWordsEnd};
 ghost use Rattle.top_call.specs.Planned.{HasRanges, IsInRange, search_of};
-ghost use Rattle.top_call.specs.Words.{HasThreads, HasLimit, HasRound, HasWords, HasSlots, HasSeed, HasWalk, HasMade, asked_by, command_in, command_of, has_other_proof, has_two_formulas, unless_clashing, solver_app};
+ghost use Rattle.top_call.specs.Words.{HasThreads, HasLimit, HasRound, HasWords, HasSlots, HasSeed, HasWalk, HasMade, asked_by, command_in, command_of, lrat_clashes, has_two_formulas, unless_clashing, solver_app};
 
 use crate::options::{
     add_arg, binary_arg, check_arg, conflicts_arg, file_arg, lrat_arg, make_arg, no_simplify_arg,
@@ -277,8 +277,8 @@ fn has_two_formulas(command: &Command<'_>) -> bool
 }
 
 /// Whether the proof is to have hints, and also to be in binary or to have lines for which there are none.
-fn has_other_proof(command: &Command<'_>) -> bool
-    ensures { result ≡ has_other_proof (asked_by command.now) }
+fn lrat_clashes(command: &Command<'_>) -> bool
+    ensures { result ≡ lrat_clashes (asked_by command.now) }
 {
     command.lrat && (command.add || command.binary)
 }
@@ -290,7 +290,7 @@ fn unless_clashing(command: Command<'_>) -> Result<Command<'_>, CallEnd>
     ensures usage { IfErr result (λ end. unless_clashing (asked_by command.entry) ≡ None) }
     ensures ends { IfErr result (λ end. end ≡ CallEnd.Usage) }
 {
-    if has_two_formulas(&command) || has_other_proof(&command) {
+    if has_two_formulas(&command) || lrat_clashes(&command) {
         return Err(CallEnd::Usage);
     }
     Ok(command)

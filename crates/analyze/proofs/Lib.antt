@@ -18,3 +18,4 @@ pub mod Ordering
 pub mod Tracing
 pub mod Supporting
 pub mod Starting
+pub mod Written

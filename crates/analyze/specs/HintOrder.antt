@@ -7,7 +7,8 @@ use Rattle.sat_words.specs.Clause.{has}
 use Rattle.rup_model.specs.Hints.{numbered}
 use Rattle.ring_port.specs.PortState.{PortState, clause_at, known_at}
 use Rattle.ring_trail.specs.declared.step.TrailStep.{TrailStep}
-use Rattle.ring_trail.specs.TrailData.{lit_at, level_at}
+use Rattle.ring_trail.specs.TrailData.{TrailData, IsTrail, lit_at, level_at, up_to}
+use Rattle.ring_trail.specs.Reasoned.{IsDecision, IsReasoned}
 use Rattle.analyze.specs.Removable.{IsReasonOf}
 
 -- the place is at level 0, and the port knows a number of its unit
@@ -48,3 +49,18 @@ pub record AreInTrailOrder (s : PortState) (steps : List TrailStep) (last : List
   pub names : numbered (known_at s) number ≡ Some last
   pub hints_are : hints ≡ before ++ number ∷ []
   pub used : (p : ℕ) → Contains places p → (has last (opposite (lit_at steps p)) ≡ true) ⊎ IsUsed s steps (Contains places) p
+
+-- each literal that was decided is the negation of one of the line
+abbrev pub DecidesAgainst : List TrailStep → List Literal → Type 0
+DecidesAgainst steps line = (p : ℕ) → p < length steps → IsDecision steps p → has line (opposite (lit_at steps p)) ≡ true
+
+-- the hints of a line are in the order of a trail that has these steps at level 0; what was decided on it are negations of the line's
+-- literals, and each other literal has its cause
+pub record AreTraced (s : PortState) (start : List TrailStep) (line : List Literal) (hints : List ℕ) : Type 0 where
+  pub trail : TrailData
+  pub shape : IsTrail trail
+  pub low : up_to 0 trail.steps ≡ up_to 0 start
+  pub reasoned : IsReasoned (clause_at s) s.seen trail.steps
+  pub decided : DecidesAgainst trail.steps line
+  pub last : List Literal
+  pub order : AreInTrailOrder s trail.steps last hints

@@ -26,7 +26,8 @@ use Rattle.watch_prop.proofs.TrailLaws.{Watched-assign, Reasons-held}
 use Rattle.watch_prop.proofs.TrailRounds.{derived_conflict, closed_quiet, closed_with}
 use Rattle.watch_prop.proofs.Decisions.{derived_known, decisions_none, fixed_true, fixed_all, reasoned_derived, clause_with}
 use Rattle.watch_prop.proofs.Agreeing.{attached_in}
-use Rattle.ring_probe.specs.Outcome.{fails, HasFailed, FailedAlone, FailedBoth}
+use Rattle.analyze.specs.HintOrder.{AreInTrailOrder}
+use Rattle.ring_probe.specs.Outcome.{fails, WroteNegation, HasFailed, FailedAlone, FailedBoth}
 use Rattle.ring_probe.proofs.Kept.{lits_same, watched_same, reasons_same, wrote_held, wrote_seen, conflict_known}
 use Rattle.ring_probe.proofs.Tried.{rup_of}
 
@@ -64,7 +65,7 @@ pub record IsFollowed (s m : PortState) (v w : WatchData) (t u : TrailData) (l :
   pub failed : fails s (attached v) t.steps l ≡ true
   pub start : IsTrail t
   pub level : t.level ≡ 0
-  pub wrote : WroteUnit s m (opposite l) UnitLine s.last
+  pub line : WroteNegation s m t.steps l
   pub shape : IsTrail u
   pub same_clauses : attached w ≡ attached v
   pub grown : HasGrown (assigned t (opposite l) None) u
@@ -82,7 +83,7 @@ module _ (s m : PortState) (v w : WatchData) (t u : TrailData) (l : Literal) (p 
   level_then = p.grown.level ∙ p.level
 
   same_lits : lits_at m ≡ lits_at s
-  same_lits = lits_same s m (held_then s m l p.wrote)
+  same_lits = lits_same s m (held_then s m l p.line.wrote)
 
   pub reasons_after : HasReasons (attached w) m u.steps
   reasons_after = subst (λ (cs : List Cref). HasReasons cs m u.steps) (sym p.same_clauses) p.reasons
@@ -117,7 +118,7 @@ module _ (s m : PortState) (v w : WatchData) (t u : TrailData) (l : Literal) (p 
   other_holds quiet = closed_quiet u p.shape ground (opposite l ∷ []) (closed_with u p.shape clauses (fixed_of t.steps) (closed_then quiet) fixed_then) given
 
   after : HasFailed s m (attached v) t u l
-  after = record { failed = p.failed; wrote = p.wrote; grown = p.grown }
+  after = record { failed = p.failed; line = p.line; grown = p.grown }
 
   pub failed_alone : IsQuiet w (lits_at m) u → FailedAlone s m (attached v) w t u l (opposite l)
   failed_alone quiet = record { negation = refl; after = after; quiet = quiet; other = other_holds quiet }
@@ -134,7 +135,7 @@ module _ (s m : PortState) (v w : WatchData) (t u : TrailData) (l : Literal) (p 
       In_Contains ground (x ∷ []) (In_append_right clauses (map (λ k. k ∷ []) (fixed_of t.steps)) (x ∷ []) (In_map (λ k. k ∷ []) (fixed_of t.steps) x in_fixed))
 
   of_seen : AllTrueOn t.steps s.seen → (q : ℕ) → q < length u.steps → IsSeen m.seen u.steps q → (has (opposite l ∷ []) (lit_at u.steps q) ≡ true) ⊎ Contains ground (lit_at u.steps q ∷ [])
-  of_seen all q lt z = by (or_cases (has s.seen x) (same (opposite l) x) (sym (p.wrote.sees x) ∙ z.seen_is))
+  of_seen all q lt z = by (or_cases (has s.seen x) (same (opposite l) x) (sym (p.line.wrote.sees x) ∙ z.seen_is))
     where
       x : Literal
       x = lit_at u.steps q
@@ -165,14 +166,16 @@ module _ (s m : PortState) (v w : WatchData) (t u : TrailData) (l : Literal) (p 
       (subst (λ (A : List Literal). conflicts (known m) A ≡ true) (decisions_none u p.shape level_then)
       (derived_conflict (known m) (decisions_of u.steps) u.steps (lits_at m c.address) (derived_known m u.steps (Reasons-held (attached w) m u.steps reasons_after)) (conflict_known m w u c p.watched bad) bad.false_all))
 
-  pub failed_both : (n : PortState) (c : Cref) → IsConflict w (lits_at m) u c → EndedLog m n → KeepsLog s m → IsPort m → KeepsLog m n → FailedBoth s n (attached v) w t u l
-  failed_both n c bad ended log port log_after = record {
+  pub failed_both : (n : PortState) (c : Cref) → IsConflict w (lits_at m) u c → (ended : EndedLog m n) → (m.hinted ≡ true → AreInTrailOrder m u.steps (lits_at m c.address) ended.hints) → KeepsLog s m → IsPort m → KeepsLog m n
+      → FailedBoth s n (attached v) w t u l
+  failed_both n c bad ended order log port log_after = record {
     middle = m;
     after = after;
     clause = c;
     conflict = bad;
     other = other_fails c bad;
     ended = ended;
+    order = order;
     log = log;
     port = port;
     log_after = log_after;

@@ -8,6 +8,7 @@ use Rattle.ring_trail.specs.TrailData.{TrailData, IsTrail, IsFalseClause, lit_at
 use Rattle.ring_trail.specs.Reasoned.{Held, IsForced, IsSeen, IsDecision, IsReasoned}
 use Rattle.analyze.specs.Removable.{RestsOn}
 use Rattle.analyze.specs.Tracing.{IsSupport, CanTraceClause}
+use Rattle.analyze.specs.HintOrder.{DecidesAgainst}
 use Rattle.watch_prop.specs.Rounds.{decisions_of}
 use Rattle.watch_prop.proofs.Decisions.{decisions_true, decision_has}
 
@@ -27,6 +28,12 @@ only k l h = elim (has_In (l ∷ []) k h) as (λ _. l ≡ k) [ inl e ↦ e | inr
 
 -- a literal alone was decided
 module _ (held : Held) (seen : List Literal) (t : TrailData) (l : Literal) (shape : IsTrail t) (reasoned : IsReasoned held seen t.steps) (decided : decisions_of t.steps ≡ l ∷ []) where
+  -- what was decided is the negation of its negation
+  pub against : DecidesAgainst t.steps (opposite l ∷ [])
+  against p lt d =
+      let e = only (lit_at t.steps p) l (subst (λ (A : List Literal). has A (lit_at t.steps p) ≡ true) decided (decision_has t.steps p lt d)) in
+      In_has (opposite l ∷ []) (opposite (lit_at t.steps p)) (inl (ap opposite e))
+
   -- each place can be passed through
   all_supported : IsSupport held t.steps (opposite l ∷ []) (λ p. true)
   all_supported p lt pos given = by (reasoned.caused p lt)
@@ -34,9 +41,7 @@ module _ (held : Held) (seen : List Literal) (t : TrailData) (l : Literal) (shap
       by : IsForced held t.steps p ⊎ (IsSeen seen t.steps p ⊎ IsDecision t.steps p) → (has (opposite l ∷ []) (opposite (lit_at t.steps p)) ≡ true) ⊎ RestsOn held t.steps (λ q. true ≡ true) p
       by (inl f) = inr record { lits = f.lits; reason = record { reason = f.reason; reason_is = f.reason_is; held_is = f.held_is }; others = λ q before falsifies. refl }
       by (inr (inl seen)) = absurd (let z = seen.level in omega (arith, z, pos))
-      by (inr (inr d)) =
-          let e = only (lit_at t.steps p) l (subst (λ (A : List Literal). has A (lit_at t.steps p) ≡ true) decided (decision_has t.steps p lt d)) in
-          inl (In_has (opposite l ∷ []) (opposite (lit_at t.steps p)) (inl (ap opposite e)))
+      by (inr (inr d)) = inl (against p lt d)
 
   not_negated : (p : ℕ) → p < length t.steps → opposite l ≡ lit_at t.steps p → ⊥
   not_negated p lt e =

@@ -1,5 +1,5 @@
 -- A literal that is decided at level 0, what propagation makes of it, and the way back.
-use Rattle.std.proofs.Common.{◌≡◌, ◌∙◌, ◌<◌, ◌≤◌, ◌+◌, Bool, true, false, cond, nat_le, List, [], ◌∷◌, ◌++◌, length, map, None, sym, refl, ap, subst, inl, inr, arith, append-nil}
+use Rattle.std.proofs.Common.{◌≡◌, ◌∙◌, ℕ, ◌<◌, ◌≤◌, ◌+◌, Bool, true, false, cond, nat_le, List, [], ◌∷◌, ◌++◌, length, map, None, sym, refl, ap, subst, inl, inr, arith, append-nil}
 use Rattle.std.proofs.lemmas.Bool.{cases_lt, or_right}
 use Rattle.std.proofs.lemmas.Bool.Decides.{nat_tests}
 use Rattle.std.proofs.lemmas.List.Elements.{filter-append}
@@ -7,7 +7,7 @@ use Rattle.sat_words.specs.Literal.{Literal, opposite}
 use Rattle.sat_words.specs.declared.shared.Cref.{Cref}
 use Rattle.rup_model.specs.Rup.{conflicts, rup}
 use Rattle.rup_model.proofs.Lists.{In}
-use Rattle.ring_port.specs.PortState.{PortState, lits_at, known}
+use Rattle.ring_port.specs.PortState.{PortState, clause_at, lits_at, known}
 use Rattle.ring_port.proofs.Holdings.{All_In}
 use Rattle.ring_trail.specs.declared.step.TrailStep.{TrailStep}
 use Rattle.ring_trail.specs.TrailData.{TrailData, IsTrail, HasGrown, level_at, up_to, decided, cut_back}
@@ -21,8 +21,11 @@ use Rattle.watch_prop.proofs.TrailLaws.{Watched-back, Reasons-held}
 use Rattle.watch_prop.proofs.TrailRounds.{derived_conflict}
 use Rattle.watch_prop.proofs.Decisions.{derived_known, decisions_none, decisions_decided, decisions_grown, fixed_decided, fixed_grown}
 use Rattle.watch_prop.proofs.Agreeing.{fixed_quiet, fixed_conflict}
+use Rattle.ring_trail.specs.Reasoned.{IsReasoned}
+use Rattle.analyze.specs.HintOrder.{AreInTrailOrder, AreTraced}
 use Rattle.ring_probe.specs.Outcome.{fails}
 use Rattle.ring_probe.proofs.Kept.{conflict_known}
+use Rattle.ring_probe.proofs.Traced.{against}
 
 pub rup_of : (G : List (List Literal)) (c : List Literal) → conflicts G (map opposite c) ≡ true → rup G c ≡ true
 unfolding rup
@@ -142,3 +145,18 @@ module _ (s : PortState) (v w : WatchData) (t u : TrailData) (l : Literal) (trie
       rup_of (known s) (opposite l ∷ [])
       (subst (λ (A : List Literal). conflicts (known s) A ≡ true) (decisions_after ∙ ap (λ (k : Literal). k ∷ []) (sym (opposite_twice l)))
       (derived_conflict (known s) (decisions_of u.steps) u.steps (lits_at s c.address) (derived_known s u.steps (Reasons-held (attached w) s u.steps reasons_after)) (conflict_known s w u c tried.watched bad) bad.false_all))
+
+  -- and hints in the order of this trail are those of its negation
+  pub traced_then : (last : List Literal) (hints : List ℕ) → AreInTrailOrder s u.steps last hints → AreTraced s t.steps (opposite l ∷ []) hints
+  traced_then last hints order = record {
+    trail = u;
+    shape = tried.shape;
+    low = low ∙ sym (up_to-all 0 t.steps (λ p lt. let b = tried.start.within p lt in let z = tried.level in omega (arith, b, z)));
+    reasoned = reasoned;
+    decided = against (clause_at s) s.seen u l tried.shape reasoned decisions_after;
+    last = last;
+    order = order;
+  }
+    where
+      reasoned : IsReasoned (clause_at s) s.seen u.steps
+      reasoned = Reasons-held (attached w) s u.steps reasons_after

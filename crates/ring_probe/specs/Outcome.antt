@@ -11,6 +11,7 @@ use Rattle.ring_port.specs.declared.stops.PortStop.{PortStop}
 use Rattle.ring_port.specs.declared.stops.PortStop.TheVariants.{Memory}
 use Rattle.ring_trail.specs.declared.step.TrailStep.{TrailStep}
 use Rattle.ring_trail.specs.TrailData.{TrailData, HasGrown, assigned}
+use Rattle.analyze.specs.HintOrder.{AreInTrailOrder, AreTraced}
 use Rattle.watch_prop.specs.WatchData.{WatchData}
 use Rattle.watch_prop.specs.Propagation.{IsConflict, IsQuiet}
 use Rattle.watch_prop.specs.Rounds.{fixed_of, with_units, AllTrueOn}
@@ -28,10 +29,15 @@ pub record DidNotFail (old new : PortState) (cs : List Cref) (t u : TrailData) (
   pub state : new ≡ old
   pub trail : u ≡ t
 
+-- the line of the literal's negation was written, with hints in the order of a trail if the log has any
+pub record WroteNegation (old new : PortState) (steps : List TrailStep) (l : Literal) : Type 0 where
+  pub wrote : WroteUnit old new (opposite l) UnitLine old.last
+  pub order : old.hinted ≡ true → AreTraced old steps (opposite l ∷ []) wrote.hints
+
 -- the literal fails: the line of its negation was written, which was made true at level 0, and the trail grew from there
 pub record HasFailed (old new : PortState) (cs : List Cref) (t u : TrailData) (l : Literal) : Type 0 where
   pub failed : fails old cs t.steps l ≡ true
-  pub wrote : WroteUnit old new (opposite l) UnitLine old.last
+  pub line : WroteNegation old new t.steps l
   pub grown : HasGrown (assigned t (opposite l) None) u
 
 -- the literal fails and its negation doesn't: that is true now, and nothing is left to propagate
@@ -41,8 +47,9 @@ pub record FailedAlone (old new : PortState) (cs : List Cref) (w : WatchData) (t
   pub quiet : IsQuiet w (lits_at new) u
   pub other : fails old cs t.steps (opposite l) ≡ false
 
--- the literal fails, and once its negation was true a clause was false: the empty clause was written; so the negation fails too, if each
--- unit seen was true before; between the two lines and after them the log stands as it did
+-- the literal fails, and once its negation was true a clause was false: the empty clause was written, with hints in the order of the
+-- trail, that clause last, if the log has any; so the negation fails too, if each unit seen was true before; between the two lines and
+-- after them the log stands as it did
 pub record FailedBoth (old new : PortState) (cs : List Cref) (w : WatchData) (t u : TrailData) (l : Literal) : Type 0 where
   pub middle : PortState
   pub after : HasFailed old middle cs t u l
@@ -50,6 +57,7 @@ pub record FailedBoth (old new : PortState) (cs : List Cref) (w : WatchData) (t 
   pub conflict : IsConflict w (lits_at middle) u clause
   pub other : AllTrueOn t.steps old.seen → fails old cs t.steps (opposite l) ≡ true
   pub ended : EndedLog middle new
+  pub order : middle.hinted ≡ true → AreInTrailOrder middle u.steps (lits_at middle clause.address) ended.hints
   pub log : KeepsLog old middle
   pub port : IsPort middle
   pub log_after : KeepsLog middle new
@@ -64,7 +72,7 @@ IsProbed old new cs w t u l Empty = FailedBoth old new cs w t u l
 -- whether it does, and nothing was done; before that call and after it the log stands as it did
 pub record WasCutShort (old new : PortState) (cs : List Cref) (t : TrailData) (l : Literal) (stop : PortStop) : Type 0 where
   pub middle : PortState
-  pub before : (middle ≡ old) ⊎ WroteUnit old middle (opposite l) UnitLine old.last
+  pub before : (middle ≡ old) ⊎ WroteNegation old middle t.steps l
   pub refused : Refused middle new stop
   pub log : KeepsLog old middle
   pub port : IsPort middle

@@ -9,6 +9,7 @@ ghost use Rattle.ring_trail.specs.TrailData.{IsTrail, value_of};
 ghost use Rattle.watch_prop.specs.WatchData.{attached};
 ghost use Rattle.watch_prop.specs.Watched.{Watched};
 ghost use Rattle.watch_prop.specs.Propagation.{HasReasons, IsQuiet};
+ghost use Rattle.analyze.specs.HintOrder.{AreTraced};
 ghost use Rattle.ring_probe.specs.Outcome.{fails, IsProbed, WasCutShort};
 
 use analyze::Analysis;
@@ -105,6 +106,8 @@ fn literal_fails<P: Port>(
     ensures failed { IfOk result (λ failed. failed ≡ fails (P.state port.old) (attached watches.old) trail.old.steps literal) }
     ensures implied { IfOk result (λ failed. failed ≡ true → rup (known (P.state port.old)) (opposite literal ∷ []) ≡ true) }
     ensures hints { IfOk result (λ failed. failed ≡ true → AreHints (P.state port.old) (opposite literal ∷ []) analysis.new.hints) }
+    ensures order { IfOk result (λ failed. failed ≡ true → (P.state port.old).hinted ≡ true
+        → AreTraced (P.state port.old) trail.old.steps (opposite literal ∷ []) analysis.new.hints) }
 {
     let _lawful = trail.decision_level();
     trail.decide(literal);
@@ -141,6 +144,7 @@ fn follow_negation<P: Port>(
     requires failed { fails (P.state port.old) (attached watches.old) trail.old.steps literal ≡ true }
     requires implied { rup (known (P.state port.old)) (opposite literal ∷ []) ≡ true }
     requires hints { AreHints (P.state port.old) (opposite literal ∷ []) analysis.old.hints }
+    requires order { (P.state port.old).hinted ≡ true → AreTraced (P.state port.old) trail.old.steps (opposite literal ∷ []) analysis.old.hints }
     requires analysis { analysis.old.vars ≡ trail.old.vars }
     ensures analysis { analysis.new.vars ≡ analysis.old.vars }
     ensures probed { IfOk result

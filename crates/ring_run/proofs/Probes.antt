@@ -20,7 +20,7 @@ use Rattle.watch_prop.specs.WatchData.{WatchData, Lits, attached}
 use Rattle.watch_prop.specs.Watched.{Watched}
 use Rattle.watch_prop.specs.Propagation.{HasReasons, IsQuiet}
 use Rattle.watch_prop.proofs.TrailLaws.{Reasons-more, Reasons-held}
-use Rattle.ring_probe.specs.Outcome.{DidNotFail, WasCutShort}
+use Rattle.ring_probe.specs.Outcome.{DidNotFail, WroteNegation, WasCutShort}
 use Rattle.ring_run.specs.Ended.{reductions}
 use Rattle.ring_run.specs.Searching.{HasClauses, KeepsOn, OffersNothing, OnlyWrote, ToldUnits, AreTold}
 use Rattle.ring_run.specs.Ending.{EndsAt, end_refused}
@@ -170,23 +170,23 @@ module _ (s : PortState) (ring : Ring) (l : Literal) (p : IsResting s ring) (on 
     pub cut_over : EndsAt s u (end_refused stop)
     cut_over n start q = by cut.before
       where
-        by : (cut.middle ≡ s) ⊎ WroteUnit s cut.middle k UnitLine s.last → Rattle.ring_run.specs.Ending.ComesTo start u n (end_refused stop)
+        by : (cut.middle ≡ s) ⊎ WroteNegation s cut.middle ring.trail.steps l → Rattle.ring_run.specs.Ending.ComesTo start u n (end_refused stop)
         by (inl is) = refused_ends start cut.middle u n stop (subst (λ (x : PortState). Rattle.ring_run.specs.Searching.GoesOn start x n) (sym is) q) cut.refused cut.log_after port_after
-        by (inr wrote) = refused_ends start cut.middle u n stop (failed_keeps cut.middle wrote cut.log cut.port start n q) cut.refused cut.log_after port_after
+        by (inr line) = refused_ends start cut.middle u n stop (failed_keeps cut.middle line.wrote cut.log cut.port start n q) cut.refused cut.log_after port_after
 
     pub cut_nothing : OffersNothing s u
     cut_nothing = by cut.before
       where
-        by : (cut.middle ≡ s) ⊎ WroteUnit s cut.middle k UnitLine s.last → OffersNothing s u
+        by : (cut.middle ≡ s) ⊎ WroteNegation s cut.middle ring.trail.steps l → OffersNothing s u
         by (inl is) = subst (λ (x : PortState). OffersNothing x u) is (nothing_refused cut.middle u stop cut.refused)
-        by (inr wrote) = nothing_then s cut.middle u (failed_nothing cut.middle wrote cut.log cut.port) (nothing_refused cut.middle u stop cut.refused)
+        by (inr line) = nothing_then s cut.middle u (failed_nothing cut.middle line.wrote cut.log cut.port) (nothing_refused cut.middle u stop cut.refused)
 
     pub cut_looks : u.looks ≡ s.looks
     cut_looks = by cut.before
       where
-        by : (cut.middle ≡ s) ⊎ WroteUnit s cut.middle k UnitLine s.last → u.looks ≡ s.looks
+        by : (cut.middle ≡ s) ⊎ WroteNegation s cut.middle ring.trail.steps l → u.looks ≡ s.looks
         by (inl is) = refused_looks cut.middle u stop cut.refused ∙ ap (λ (x : PortState). x.looks) is
-        by (inr wrote) = refused_looks cut.middle u stop cut.refused ∙ ap (λ (x : PortState). x.looks) wrote.state
+        by (inr line) = refused_looks cut.middle u stop cut.refused ∙ ap (λ (x : PortState). x.looks) line.wrote.state
 
   -- the literal didn't fail
   module _ (m : PortState) (w : WatchData) (t : TrailData) (held : DidNotFail s m (attached ring.watches) ring.trail t l) (same : attached w ≡ attached ring.watches)

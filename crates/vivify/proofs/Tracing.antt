@@ -6,7 +6,7 @@ use Rattle.std.proofs.lemmas.Option.{get_or_from_slice_get}
 use Rattle.sat_words.specs.Literal.{Literal, opposite}
 use Rattle.sat_words.specs.Clause.{has}
 use Rattle.sat_words.specs.declared.shared.Cref.{Cref}
-use Rattle.rup_model.proofs.Lists.{In, In_has, has_In, any_In, all_In, In_map, map_In, In_append, In_append_left, In_append_right}
+use Rattle.rup_model.proofs.Lists.{In, In_has, has_In, any_In, all_In, In_map, In_append, In_append_left, In_append_right}
 use Rattle.ring_port.specs.PortState.{PortState, IsPort, lits_at, held_at, clause_at}
 use Rattle.ring_port.proofs.Holdings.{held_is_kept}
 use Rattle.ring_trail.specs.TrailData.{TrailData, IsTrail, IsTrueOn, IsFalseOn, HasNoPlace, IsPlaceOf, lit_at, var_at}
@@ -19,14 +19,14 @@ use Rattle.watch_prop.specs.Propagation.{IsConflict}
 use Rattle.watch_prop.specs.Rounds.{decisions_of}
 use Rattle.watch_prop.proofs.Growing.{watch_of}
 use Rattle.watch_prop.proofs.Entries.{attachable_held}
-use Rattle.watch_prop.proofs.Decisions.{decisions_true, decision_has}
+use Rattle.watch_prop.proofs.Decisions.{decisions_true}
 use Rattle.vivify.specs.Walk.{walk_from, left_of}
 use Rattle.vivify.specs.Ending.{FromClause, FromLiteral, CanTrace}
 use Rattle.vivify.specs.Walking.{TookLast}
 use Rattle.vivify.specs.declared.ending.Ending.{Ending}
 use Rattle.vivify.specs.declared.ending.Ending.TheVariants.{Conflict, True, Taken}
 use Rattle.vivify.proofs.Walked.{no_lit, place_in}
-use Rattle.vivify.proofs.Walks.{apart, opposite_twice, opposite_differs, false_by}
+use Rattle.vivify.proofs.Walks.{apart, opposite_differs, false_by, against}
 use Rattle.vivify.proofs.Parts.{left_part, kept_in}
 
 -- the literals kept are decided false, and are some of the line's
@@ -39,10 +39,7 @@ module _ (s : PortState) (t : TrailData) (kept line : List Literal) (shape : IsT
       by : IsForced (clause_at s) t.steps p ⊎ (IsSeen s.seen t.steps p ⊎ IsDecision t.steps p) → (has line (opposite (lit_at t.steps p)) ≡ true) ⊎ RestsOn (clause_at s) t.steps (λ q. true ≡ true) p
       by (inl f) = inr record { lits = f.lits; reason = record { reason = f.reason; reason_is = f.reason_is; held_is = f.held_is }; others = λ q before falsifies. refl }
       by (inr (inl seen)) = absurd (let z = seen.level in omega (arith, z, pos))
-      by (inr (inr d)) =
-          let there = has_In (map opposite kept) (lit_at t.steps p) (subst (λ (A : List Literal). has A (lit_at t.steps p) ≡ true) decided (decision_has t.steps p lt d)) in
-          let m = map_In opposite kept (lit_at t.steps p) there in
-          inl (In_has line (opposite (lit_at t.steps p)) (subst (λ (k : Literal). In k line) (sym (ap opposite (sym m.2) ∙ opposite_twice m.0)) (among m.0 m.1)))
+      by (inr (inr d)) = inl (against t.steps kept line decided among p lt d)
 
   -- a literal kept is false
   negation_true : (k : Literal) → In k kept → IsTrueOn t.steps (opposite k)

@@ -1,5 +1,5 @@
 -- What vivification comes to.
-use Rattle.std.specs.Prelude.{◌≡◌, ℕ, ◌-◌, ◌<◌, ◌⊎◌, min, List, [], ◌∷◌, ◌++◌, length}
+use Rattle.std.specs.Prelude.{◌≡◌, ℕ, ◌-◌, ◌<◌, ◌⊎◌, true, min, List, [], ◌∷◌, ◌++◌, length}
 use Rattle.std.specs.Option.{option_map_or}
 use Rattle.sat_words.specs.Literal.{Literal}
 use Rattle.sat_words.specs.declared.shared.Cref.{Cref}
@@ -8,6 +8,7 @@ use Rattle.ring_port.specs.PortState.{PortState, Holding, lits_at, held_at}
 use Rattle.ring_port.specs.declared.stops.PortStop.{PortStop}
 use Rattle.ring_port.specs.Port.{AddedClause, WroteUnit, Refused}
 use Rattle.ring_trail.specs.declared.step.TrailStep.{TrailStep}
+use Rattle.analyze.specs.HintOrder.{AreTraced}
 use Rattle.watch_prop.specs.WatchData.{WatchData, attached, without}
 use Rattle.ring_port.specs.Deleting.{DroppedOnce}
 use Rattle.vivify.specs.Walk.{left_of, others}
@@ -28,19 +29,22 @@ pub record WasKept (old new : PortState) (v w : WatchData) (steps : List TrailSt
   pub state : new ≡ old
   pub attached_now : attached w ≡ attached v
 
--- fewer are left: their clause was derived and is attached, and then the clause was dropped
+-- fewer are left: their clause was derived, with hints in the order of a trail if the log has any, and is attached, and then the clause
+-- was dropped
 pub record WasShortened (old new : PortState) (v w : WatchData) (steps : List TrailStep) (c d : Cref) : Type 0 where
   pub fewer : length (left_at old (attached v) steps c.address) < length (lits_at old c.address)
   pub middle : PortState
   pub derived : AddedClause old middle (left_at old (attached v) steps c.address) (min (glue_at old c.address) (length (left_at old (attached v) steps c.address) - 1)) Derive d
+  pub order : old.hinted ≡ true → AreTraced old steps (left_at old (attached v) steps c.address) derived.hints
   pub dropped : DroppedOnce middle new c.address
   pub attached_now : attached w ≡ without (attached v) c.address ++ d ∷ []
 
--- one is left: its line was written, and then the clause was dropped
+-- one is left: its line was written, with hints in the order of a trail if the log has any, and then the clause was dropped
 pub record BecameUnit (old new : PortState) (v w : WatchData) (steps : List TrailStep) (c : Cref) (l : Literal) : Type 0 where
   pub left : left_at old (attached v) steps c.address ≡ l ∷ []
   pub middle : PortState
   pub wrote : WroteUnit old middle l UnitLine old.last
+  pub order : old.hinted ≡ true → AreTraced old steps (l ∷ []) wrote.hints
   pub dropped : DroppedOnce middle new c.address
   pub attached_now : attached w ≡ without (attached v) c.address
 
@@ -51,11 +55,12 @@ IsVivified old new v w steps c (Shorter d) = WasShortened old new v w steps c d
 IsVivified old new v w steps c (Unit l) = BecameUnit old new v w steps c l
 IsVivified old new v w steps c Empty = ⊥
 
--- the line of what is left was written, of a clause or of a unit
+-- the line of what is left was written, of a clause or of a unit, with hints in the order of a trail if the log has any
 abbrev pub WroteLeft : PortState → PortState → WatchData → List TrailStep → Cref → Type 0
 WroteLeft old new v steps c =
-    ((d : Cref) × AddedClause old new (left_at old (attached v) steps c.address) (min (glue_at old c.address) (length (left_at old (attached v) steps c.address) - 1)) Derive d)
-    ⊎ ((l : Literal) × (left_at old (attached v) steps c.address ≡ l ∷ []) × WroteUnit old new l UnitLine old.last)
+    ((d : Cref) × (added : AddedClause old new (left_at old (attached v) steps c.address) (min (glue_at old c.address) (length (left_at old (attached v) steps c.address) - 1)) Derive d)
+    × (old.hinted ≡ true → AreTraced old steps (left_at old (attached v) steps c.address) added.hints))
+    ⊎ ((l : Literal) × (left_at old (attached v) steps c.address ≡ l ∷ []) × (wrote : WroteUnit old new l UnitLine old.last) × (old.hinted ≡ true → AreTraced old steps (l ∷ []) wrote.hints))
 
 -- a call of the port was refused: nothing was done before it, or the line of what is left was written
 pub record WasCutShort (old new : PortState) (v : WatchData) (steps : List TrailStep) (c : Cref) (stop : PortStop) : Type 0 where

@@ -12,7 +12,9 @@ use Rattle.watch_prop.specs.WatchData.{attached}
 use Rattle.watch_prop.specs.Watched.{Watched}
 use Rattle.watch_prop.specs.Propagation.{HasReasons, IsQuiet, IsConflict}
 use Rattle.watch_prop.specs.declared.propagated.Propagated.TheVariants.{Quiet, Conflict}
-use Rattle.ring_probe.specs.Outcome.{FailedAlone}
+use Rattle.analyze.specs.HintOrder.{AreInTrailOrder, AreTraced}
+use Rattle.analyze.proofs.Written.{unit_hints, empty_hints}
+use Rattle.ring_probe.specs.Outcome.{WroteNegation, FailedAlone}
 use Rattle.analyze.specs.Tracing.{CanTraceClause}
 use Rattle.ring_probe.proofs.Traced.{traces_low}
 use Rattle.ring_probe.proofs.Kept.{came_to, conflict_held, watched_same, reasons_same, ended_held, ended_seen, refused_held, refused_seen}
@@ -31,6 +33,13 @@ unit-requires-clause-rup g c = subst (λ (k : Literal). rup (known (g.P.Port.sta
 wrote : (g : Given.Over) (c : In_ok-unit g) → WroteUnit (g.P.Port.state c.args.port.now) (g.P.Port.state c.unit.new.self) (opposite c.args.literal) UnitLine (g.P.Port.state c.args.port.now).last
 wrote g c = subst (λ (k : Literal). WroteUnit (g.P.Port.state c.args.port.now) (g.P.Port.state c.unit.new.self) k UnitLine (g.P.Port.state c.args.port.now).last) c.not-unit.ensures c.in_ok-unit.ensures.written
 
+line : (g : Given.Over) (c : In_ok-unit g) → WroteNegation (g.P.Port.state c.args.port.now) (g.P.Port.state c.unit.new.self) c.args.trail.now.steps c.args.literal
+line g c =
+    let s = g.P.Port.state c.args.port.now in
+    let m = g.P.Port.state c.unit.new.self in
+    let given = unit_hints s m (opposite c.args.literal) UnitLine s.last c.hints.result.now (wrote g c) c.in_ok-unit.ensures.hints ∙ c.hints.ensures in
+    record { wrote = wrote g c; order = λ hinted. subst (AreTraced s c.args.trail.now.steps (opposite c.args.literal ∷ [])) (sym given) (c.requires.order hinted) }
+
 -- what was done
 followed : (g : Given.Over) (c : After-decision_level-lawful g) → IsFollowed (g.P.Port.state c.args.port.now) (g.P.Port.state c.unit.new.self) c.args.watches.now c.propagate-followed.new.self c.args.trail.now c.propagate-followed.new.trail c.args.literal
 followed g c =
@@ -39,7 +48,7 @@ followed g c =
       failed = c.requires.failed;
       start = c.requires.trail;
       level = c.requires.level;
-      wrote = wrote g (goal.at.After-decision_level-lawful g c).In_ok-unit;
+      line = line g (goal.at.After-decision_level-lawful g c).In_ok-unit;
       shape = c.decision_level-lawful.ensures.trail;
       same_clauses = c.propagate-followed.ensures.attached;
       grown = subst (λ (x : TrailData). HasGrown x c.propagate-followed.new.trail) step c.propagate-followed.ensures.grown;
@@ -121,7 +130,7 @@ level_now g c = level_then (g.P.Port.state c.args.port.now) (g.P.Port.state c.un
 pub returns-in_default-clause-stopped : goal.returns-in_default-clause-stopped
 returns-in_default-clause-stopped g c = record {
   middle = g.P.Port.state c.unit.new.self;
-  before = inr (wrote g (goal.at.returns-in_default-clause-stopped g c).In_ok-unit);
+  before = inr (line g (goal.at.returns-in_default-clause-stopped g c).In_ok-unit);
   refused = record { reason = tt; state = c.propagate-followed.ensures.same };
   log = c.unit.ensures.log;
   port = c.unit.ensures.port;
@@ -226,8 +235,13 @@ returns-in_ok-empty-in-Conflict-clause-probed g c =
     let m = g.P.Port.state c.unit.new.self in
     let n = g.P.Port.state c.empty.new.self in
     let at = goal.at.returns-in_ok-empty-in-Conflict-clause-probed g c in
-    failed_both s m c.args.watches.now c.propagate-followed.new.self c.args.trail.now c.propagate-followed.new.trail c.args.literal (followed g at.After-decision_level-lawful) n c.in-Conflict.conflict (conflict_now g at.In-Conflict)
-    (subst (λ (x : PortState). EndedLog x n) (c.trace_clause.ensures.same ∙ c.propagate-followed.ensures.same) c.in_ok-empty-in-Conflict.ensures.written)
+    let u = c.propagate-followed.new.trail in
+    let a = c.in-Conflict.conflict.address in
+    let ended = subst (λ (x : PortState). EndedLog x n) (c.trace_clause.ensures.same ∙ c.propagate-followed.ensures.same) c.in_ok-empty-in-Conflict.ensures.written in
+    let given = empty_hints m n c.hints-in-Conflict.result.now ended c.in_ok-empty-in-Conflict.ensures.hints ∙ c.hints-in-Conflict.ensures in
+    let order = subst (λ (x : PortState). x.hinted ≡ true → AreInTrailOrder x u.steps (lits_at x a) c.trace_clause.new.self.hints) c.propagate-followed.ensures.same c.trace_clause.ensures.order in
+    failed_both s m c.args.watches.now c.propagate-followed.new.self c.args.trail.now u c.args.literal (followed g at.After-decision_level-lawful) n c.in-Conflict.conflict (conflict_now g at.In-Conflict)
+    ended (λ hinted. subst (AreInTrailOrder m u.steps (lits_at m a)) (sym given) (order hinted))
     c.unit.ensures.log c.unit.ensures.port (λ o h. c.empty.ensures.log o (subst (StandsOver o) (sym (c.trace_clause.ensures.same ∙ c.propagate-followed.ensures.same)) h))
 
 -- the empty clause was written where propagation ended
@@ -270,7 +284,7 @@ returns-in_err-empty-in-Conflict-clause-stopped g c =
     let p = err_from_is_err_and c.from_residual-in_err-empty-in-Conflict.result c.from_residual-in_err-empty-in-Conflict.ensures.1 in
     rw (p.1, p.2) (record {
       middle = g.P.Port.state c.unit.new.self;
-      before = inr (wrote g at.In_ok-unit);
+      before = inr (line g at.In_ok-unit);
       refused = subst (λ (x : PortState). Refused x n c.in_err-empty-in-Conflict.field-0.0) (c.trace_clause.ensures.same ∙ c.propagate-followed.ensures.same) c.in_err-empty-in-Conflict.ensures.written;
       log = c.unit.ensures.log;
       port = c.unit.ensures.port;

@@ -1,4 +1,4 @@
-use Rattle.std.proofs.Common.{◌≡◌, ◌∙◌, ◌∷◌, [], IsSome, subst, sym, arith}
+use Rattle.std.proofs.Common.{◌≡◌, ◌∙◌, ◌∷◌, [], true, IsSome, subst, sym, arith, rules}
 use Rattle.sat_words.specs.Literal.{Literal}
 use Rattle.ring_port.specs.PortState.{PortState, clause_at, held_at, lits_at}
 use Rattle.ring_trail.specs.TrailData.{TrailData, IsTrail, HasGrown}
@@ -9,11 +9,12 @@ use Rattle.watch_prop.specs.Propagation.{attached_at, HasReasons, IsClosedBelow,
 use Rattle.watch_prop.specs.declared.propagated.Propagated.TheVariants.{Quiet, Conflict}
 use Rattle.watch_prop.proofs.TrailLaws.{Watched-decide, Reasons-held}
 use Rattle.analyze.specs.Tracing.{CanTraceClause}
+use Rattle.analyze.specs.HintOrder.{AreInTrailOrder}
 use Rattle.ring_probe.proofs.Kept.{came_to, conflict_held}
 use Rattle.ring_probe.proofs.Traced.{traces_tried}
-use Rattle.ring_probe.proofs.Tried.{closed_below, IsTried, back, watched_back, decisions_after, holds_then, fails_then, follows_then}
+use Rattle.ring_probe.proofs.Tried.{closed_below, IsTried, back, watched_back, decisions_after, holds_then, fails_then, follows_then, traced_then}
 use Rattle.ring_probe.proofs.probing.literal_fails.Given as Given
-use Rattle.ring_probe.proofs.probing.literal_fails.Goals.{After-decision_level-lawful_after, In-Ok-Conflict, After-back_to}
+use Rattle.ring_probe.proofs.probing.literal_fails.Goals.{After-decision_level-lawful_after, In-Ok-Conflict, After-back_to, in-Ok-Conflict, in-Ok+in-Quiet-1, in-Err-1}
 use Rattle.ring_probe.proofs.probing.literal_fails.Goals as goal
 
 pub propagate-propagated-requires-clause-watched : goal.propagate-propagated-requires-clause-watched
@@ -112,6 +113,23 @@ pub returns-in-Conflict-clause-implied : goal.returns-in-Conflict-clause-implied
 returns-in-Conflict-clause-implied g c = λ yes'.
     follows_then (g.P.Port.state c.args.port.now) c.args.watches.now c.propagate-propagated.new.self c.args.trail.now c.propagate-propagated.new.trail c.args.literal (tried g (goal.at.returns-in-Conflict-clause-implied g c).After-decision_level-lawful_after) c.in-Conflict.field-0
     (came_to (g.P.Port.state c.args.port.now) c.propagate-propagated.new.self c.propagate-propagated.new.trail c.propagate-propagated.result c.in_ok-propagated.field-0 (Conflict c.in-Conflict.field-0) c.in_ok-propagated.was c.in-Conflict.is c.propagate-propagated.ensures.propagated)
+
+pub returns-in-Conflict-clause-order : goal.returns-in-Conflict-clause-order
+returns-in-Conflict-clause-order g c = λ yes' hinted.
+    let s = g.P.Port.state c.args.port.now in
+    let v = c.args.watches.now in
+    let w = c.propagate-propagated.new.self in
+    let t = c.args.trail.now in
+    let u = c.propagate-propagated.new.trail in
+    let l = c.args.literal in
+    let done = tried g (goal.at.returns-in-Conflict-clause-order g c).After-decision_level-lawful_after in
+    elim c.match-propagated.branch [
+      | in-Ok-Conflict b ↦ (
+          let found = subst (λ (x : PortState). x.hinted ≡ true → AreInTrailOrder x u.steps (lits_at x b.in-Ok-Conflict.conflict.address) b.trace_clause.new.self.hints) c.propagate-propagated.ensures.same b.trace_clause.ensures.order hinted in
+          rw b.analysis-is (traced_then s v w t u l done (lits_at s b.in-Ok-Conflict.conflict.address) b.trace_clause.new.self.hints found))
+      | in-Ok+in-Quiet-1 b ↦ search rules
+      | in-Err-1 b ↦ search rules
+    ]
 
 -- There is no memory
 

@@ -153,7 +153,7 @@ write_pending-requires-clause-search g c =
     let lit = c.args.lit in
     let on : IsOn s.vars lit = subst (λ (n : ℕ). IsOn n lit) c.requires.resting.search.stands.vars c.requires.on in
     let z : FailedAlone s m (attached ring.watches) w ring.trail t lit c.in-Ok-Unit.field-0-0 = subst (IsProbed s m (attached ring.watches) w ring.trail t lit) c.in-Ok-Unit.field-0-is c.in-Ok-Unit.ensures.probed in
-    failed_search s ring lit c.requires.resting on c.requires.free m z.after.wrote c.probe.ensures.log c.probe.ensures.port w t z.after.grown c.probe.ensures.attached c.probe.ensures.trail c.probe.ensures.level c.probe.ensures.watched c.probe.ensures.reasons
+    failed_search s ring lit c.requires.resting on c.requires.free m z.after.line.wrote c.probe.ensures.log c.probe.ensures.port w t z.after.grown c.probe.ensures.attached c.probe.ensures.trail c.probe.ensures.level c.probe.ensures.watched c.probe.ensures.reasons
 
 pub returns-in-Ok-clause-resting : goal.returns-in-Ok-clause-resting
 returns-in-Ok-clause-resting g c =
@@ -165,7 +165,7 @@ returns-in-Ok-clause-resting g c =
     let lit = c.args.lit in
     let on : IsOn s.vars lit = subst (λ (n : ℕ). IsOn n lit) c.requires.resting.search.stands.vars c.requires.on in
     let z : FailedAlone s m (attached ring.watches) w ring.trail t lit c.in-Ok-Unit.field-0-0 = subst (IsProbed s m (attached ring.watches) w ring.trail t lit) c.in-Ok-Unit.field-0-is c.in-Ok-Unit.ensures.probed in
-    told_resting s ring lit c.requires.resting on c.requires.free m z.after.wrote c.probe.ensures.log c.probe.ensures.port w t z.after.grown c.probe.ensures.attached c.probe.ensures.trail c.probe.ensures.level c.probe.ensures.watched c.probe.ensures.reasons (g.P.Port.state c.write_pending.new.port) c.write_pending.new.ring c.write_pending.ensures.trail c.write_pending.ensures.watches c.in-Ok.ensures.search c.in-Ok.ensures.wrote z.quiet (c.in-Ok.ensures.whole c.probe.ensures.level)
+    told_resting s ring lit c.requires.resting on c.requires.free m z.after.line.wrote c.probe.ensures.log c.probe.ensures.port w t z.after.grown c.probe.ensures.attached c.probe.ensures.trail c.probe.ensures.level c.probe.ensures.watched c.probe.ensures.reasons (g.P.Port.state c.write_pending.new.port) c.write_pending.new.ring c.write_pending.ensures.trail c.write_pending.ensures.watches c.in-Ok.ensures.search c.in-Ok.ensures.wrote z.quiet (c.in-Ok.ensures.whole c.probe.ensures.level)
 
 pub returns-in-Ok-clause-listed : goal.returns-in-Ok-clause-listed
 returns-in-Ok-clause-listed g c =
@@ -177,7 +177,7 @@ returns-in-Ok-clause-listed g c =
     let lit = c.args.lit in
     let on : IsOn s.vars lit = subst (λ (n : ℕ). IsOn n lit) c.requires.resting.search.stands.vars c.requires.on in
     let z : FailedAlone s m (attached ring.watches) w ring.trail t lit c.in-Ok-Unit.field-0-0 = subst (IsProbed s m (attached ring.watches) w ring.trail t lit) c.in-Ok-Unit.field-0-is c.in-Ok-Unit.ensures.probed in
-    c.in-Ok.ensures.listed (failed_listed s ring lit c.requires.resting on c.requires.free m z.after.wrote c.probe.ensures.log c.probe.ensures.port w t z.after.grown c.probe.ensures.attached c.probe.ensures.trail c.probe.ensures.level c.probe.ensures.watched c.probe.ensures.reasons c.requires.listed)
+    c.in-Ok.ensures.listed (failed_listed s ring lit c.requires.resting on c.requires.free m z.after.line.wrote c.probe.ensures.log c.probe.ensures.port w t z.after.grown c.probe.ensures.attached c.probe.ensures.trail c.probe.ensures.level c.probe.ensures.watched c.probe.ensures.reasons c.requires.listed)
 
 pub returns-in-Ok-clause-keeps : goal.returns-in-Ok-clause-keeps
 returns-in-Ok-clause-keeps g c =
@@ -189,7 +189,7 @@ returns-in-Ok-clause-keeps g c =
     let lit = c.args.lit in
     let on : IsOn s.vars lit = subst (λ (n : ℕ). IsOn n lit) c.requires.resting.search.stands.vars c.requires.on in
     let z : FailedAlone s m (attached ring.watches) w ring.trail t lit c.in-Ok-Unit.field-0-0 = subst (IsProbed s m (attached ring.watches) w ring.trail t lit) c.in-Ok-Unit.field-0-is c.in-Ok-Unit.ensures.probed in
-    λ start n p. c.in-Ok.ensures.ok start n (failed_keeps s ring lit c.requires.resting on c.requires.free m z.after.wrote c.probe.ensures.log c.probe.ensures.port start n p)
+    λ start n p. c.in-Ok.ensures.ok start n (failed_keeps s ring lit c.requires.resting on c.requires.free m z.after.line.wrote c.probe.ensures.log c.probe.ensures.port start n p)
 
 pub returns-in-Ok-clause-probed : goal.returns-in-Ok-clause-probed
 returns-in-Ok-clause-probed g c =
@@ -206,7 +206,7 @@ returns-in-Ok-clause-probed g c =
       between = record { port = m; watches = w; trail = t };
       probed = z;
       same_clauses = c.probe.ensures.attached;
-      after = told_all s ring lit c.requires.resting on c.requires.free m z.after.wrote c.probe.ensures.log c.probe.ensures.port w t z.after.grown c.probe.ensures.attached c.probe.ensures.trail c.probe.ensures.level c.probe.ensures.watched c.probe.ensures.reasons (g.P.Port.state c.write_pending.new.port) c.write_pending.new.ring c.write_pending.ensures.trail c.write_pending.ensures.watches c.in-Ok.ensures.search c.in-Ok.ensures.wrote z.quiet (c.in-Ok.ensures.whole c.probe.ensures.level) c.in-Ok.ensures.lines;
+      after = told_all s ring lit c.requires.resting on c.requires.free m z.after.line.wrote c.probe.ensures.log c.probe.ensures.port w t z.after.grown c.probe.ensures.attached c.probe.ensures.trail c.probe.ensures.level c.probe.ensures.watched c.probe.ensures.reasons (g.P.Port.state c.write_pending.new.port) c.write_pending.new.ring c.write_pending.ensures.trail c.write_pending.ensures.watches c.in-Ok.ensures.search c.in-Ok.ensures.wrote z.quiet (c.in-Ok.ensures.whole c.probe.ensures.level) c.in-Ok.ensures.lines;
     }
 
 pub returns-in-Ok-clause-vars : goal.returns-in-Ok-clause-vars
@@ -231,7 +231,7 @@ returns-in-Ok-clause-steps g c =
     let lit = c.args.lit in
     let on : IsOn s.vars lit = subst (λ (n : ℕ). IsOn n lit) c.requires.resting.search.stands.vars c.requires.on in
     let z : FailedAlone s m (attached ring.watches) w ring.trail t lit c.in-Ok-Unit.field-0-0 = subst (IsProbed s m (attached ring.watches) w ring.trail t lit) c.in-Ok-Unit.field-0-is c.in-Ok-Unit.ensures.probed in
-    (let same = ap (λ (x : TrailData). length x.steps) c.write_pending.ensures.trail in let long = failed_longer s ring lit c.requires.resting on c.requires.free m z.after.wrote c.probe.ensures.log c.probe.ensures.port w t z.after.grown c.probe.ensures.attached c.probe.ensures.trail c.probe.ensures.level c.probe.ensures.watched c.probe.ensures.reasons in omega (arith, same, long))
+    (let same = ap (λ (x : TrailData). length x.steps) c.write_pending.ensures.trail in let long = failed_longer s ring lit c.requires.resting on c.requires.free m z.after.line.wrote c.probe.ensures.log c.probe.ensures.port w t z.after.grown c.probe.ensures.attached c.probe.ensures.trail c.probe.ensures.level c.probe.ensures.watched c.probe.ensures.reasons in omega (arith, same, long))
 
 pub returns-in-Ok-clause-looks : goal.returns-in-Ok-clause-looks
 returns-in-Ok-clause-looks g c =
@@ -243,7 +243,7 @@ returns-in-Ok-clause-looks g c =
     let lit = c.args.lit in
     let on : IsOn s.vars lit = subst (λ (n : ℕ). IsOn n lit) c.requires.resting.search.stands.vars c.requires.on in
     let z : FailedAlone s m (attached ring.watches) w ring.trail t lit c.in-Ok-Unit.field-0-0 = subst (IsProbed s m (attached ring.watches) w ring.trail t lit) c.in-Ok-Unit.field-0-is c.in-Ok-Unit.ensures.probed in
-    c.write_pending.ensures.looks ∙ failed_looks s ring lit c.requires.resting on c.requires.free m z.after.wrote c.probe.ensures.log c.probe.ensures.port
+    c.write_pending.ensures.looks ∙ failed_looks s ring lit c.requires.resting on c.requires.free m z.after.line.wrote c.probe.ensures.log c.probe.ensures.port
 
 pub returns-in-Ok-clause-nothing : goal.returns-in-Ok-clause-nothing
 returns-in-Ok-clause-nothing g c =
@@ -255,7 +255,7 @@ returns-in-Ok-clause-nothing g c =
     let lit = c.args.lit in
     let on : IsOn s.vars lit = subst (λ (n : ℕ). IsOn n lit) c.requires.resting.search.stands.vars c.requires.on in
     let z : FailedAlone s m (attached ring.watches) w ring.trail t lit c.in-Ok-Unit.field-0-0 = subst (IsProbed s m (attached ring.watches) w ring.trail t lit) c.in-Ok-Unit.field-0-is c.in-Ok-Unit.ensures.probed in
-    nothing_then s m (g.P.Port.state c.write_pending.new.port) (failed_nothing s ring lit c.requires.resting on c.requires.free m z.after.wrote c.probe.ensures.log c.probe.ensures.port) c.write_pending.ensures.nothing
+    nothing_then s m (g.P.Port.state c.write_pending.new.port) (failed_nothing s ring lit c.requires.resting on c.requires.free m z.after.line.wrote c.probe.ensures.log c.probe.ensures.port) c.write_pending.ensures.nothing
 
 pub returns-in-Err-write_pending-clause-over : goal.returns-in-Err-write_pending-clause-over
 returns-in-Err-write_pending-clause-over g c =
@@ -269,7 +269,7 @@ returns-in-Err-write_pending-clause-over g c =
     let z : FailedAlone s m (attached ring.watches) w ring.trail t lit c.in-Ok-Unit.field-0-0 = subst (IsProbed s m (attached ring.watches) w ring.trail t lit) c.in-Ok-Unit.field-0-is c.in-Ok-Unit.ensures.probed in
     let u = g.P.Port.state c.write_pending.new.port in
     let end = c.end_refused.result in
-    halts_then s m u end (failed_keeps s ring lit c.requires.resting on c.requires.free m z.after.wrote c.probe.ensures.log c.probe.ensures.port) (refused_halts m u c.in-Err-write_pending.stop end c.end_refused.ensures c.in-Err-write_pending.ensures.over)
+    halts_then s m u end (failed_keeps s ring lit c.requires.resting on c.requires.free m z.after.line.wrote c.probe.ensures.log c.probe.ensures.port) (refused_halts m u c.in-Err-write_pending.stop end c.end_refused.ensures c.in-Err-write_pending.ensures.over)
 
 pub returns-in-Err-write_pending-clause-halts : goal.returns-in-Err-write_pending-clause-halts
 returns-in-Err-write_pending-clause-halts g c =
@@ -299,7 +299,7 @@ returns-in-Err-write_pending-clause-looks g c =
     let lit = c.args.lit in
     let on : IsOn s.vars lit = subst (λ (n : ℕ). IsOn n lit) c.requires.resting.search.stands.vars c.requires.on in
     let z : FailedAlone s m (attached ring.watches) w ring.trail t lit c.in-Ok-Unit.field-0-0 = subst (IsProbed s m (attached ring.watches) w ring.trail t lit) c.in-Ok-Unit.field-0-is c.in-Ok-Unit.ensures.probed in
-    c.write_pending.ensures.looks ∙ failed_looks s ring lit c.requires.resting on c.requires.free m z.after.wrote c.probe.ensures.log c.probe.ensures.port
+    c.write_pending.ensures.looks ∙ failed_looks s ring lit c.requires.resting on c.requires.free m z.after.line.wrote c.probe.ensures.log c.probe.ensures.port
 
 pub returns-in-Err-write_pending-clause-nothing : goal.returns-in-Err-write_pending-clause-nothing
 returns-in-Err-write_pending-clause-nothing g c =
@@ -311,7 +311,7 @@ returns-in-Err-write_pending-clause-nothing g c =
     let lit = c.args.lit in
     let on : IsOn s.vars lit = subst (λ (n : ℕ). IsOn n lit) c.requires.resting.search.stands.vars c.requires.on in
     let z : FailedAlone s m (attached ring.watches) w ring.trail t lit c.in-Ok-Unit.field-0-0 = subst (IsProbed s m (attached ring.watches) w ring.trail t lit) c.in-Ok-Unit.field-0-is c.in-Ok-Unit.ensures.probed in
-    nothing_then s m (g.P.Port.state c.write_pending.new.port) (failed_nothing s ring lit c.requires.resting on c.requires.free m z.after.wrote c.probe.ensures.log c.probe.ensures.port) c.write_pending.ensures.nothing
+    nothing_then s m (g.P.Port.state c.write_pending.new.port) (failed_nothing s ring lit c.requires.resting on c.requires.free m z.after.line.wrote c.probe.ensures.log c.probe.ensures.port) c.write_pending.ensures.nothing
 
 pub returns-in-Ok-Empty-clause-over : goal.returns-in-Ok-Empty-clause-over
 returns-in-Ok-Empty-clause-over g c =
@@ -323,7 +323,7 @@ returns-in-Ok-Empty-clause-over g c =
     let lit = c.args.lit in
     let on : IsOn s.vars lit = subst (λ (n : ℕ). IsOn n lit) c.requires.resting.search.stands.vars c.requires.on in
     let z : FailedBoth s m (attached ring.watches) w ring.trail t lit = subst (IsProbed s m (attached ring.watches) w ring.trail t lit) c.in-Ok-Empty.field-0-is c.in-Ok-Empty.ensures.probed in
-    refuted_halts s ring lit c.requires.resting on c.requires.free z.middle z.after.wrote z.log z.port m z.ended z.log_after c.probe.ensures.port
+    refuted_halts s ring lit c.requires.resting on c.requires.free z.middle z.after.line.wrote z.log z.port m z.ended z.log_after c.probe.ensures.port
 
 pub returns-in-Ok-Empty-clause-halts : goal.returns-in-Ok-Empty-clause-halts
 returns-in-Ok-Empty-clause-halts g c =
@@ -347,7 +347,7 @@ returns-in-Ok-Empty-clause-looks g c =
     let lit = c.args.lit in
     let on : IsOn s.vars lit = subst (λ (n : ℕ). IsOn n lit) c.requires.resting.search.stands.vars c.requires.on in
     let z : FailedBoth s m (attached ring.watches) w ring.trail t lit = subst (IsProbed s m (attached ring.watches) w ring.trail t lit) c.in-Ok-Empty.field-0-is c.in-Ok-Empty.ensures.probed in
-    refuted_looks s ring lit c.requires.resting on c.requires.free z.middle z.after.wrote z.log z.port m z.ended z.log_after c.probe.ensures.port
+    refuted_looks s ring lit c.requires.resting on c.requires.free z.middle z.after.line.wrote z.log z.port m z.ended z.log_after c.probe.ensures.port
 
 pub returns-in-Ok-Empty-clause-nothing : goal.returns-in-Ok-Empty-clause-nothing
 returns-in-Ok-Empty-clause-nothing g c =
@@ -359,7 +359,7 @@ returns-in-Ok-Empty-clause-nothing g c =
     let lit = c.args.lit in
     let on : IsOn s.vars lit = subst (λ (n : ℕ). IsOn n lit) c.requires.resting.search.stands.vars c.requires.on in
     let z : FailedBoth s m (attached ring.watches) w ring.trail t lit = subst (IsProbed s m (attached ring.watches) w ring.trail t lit) c.in-Ok-Empty.field-0-is c.in-Ok-Empty.ensures.probed in
-    refuted_nothing s ring lit c.requires.resting on c.requires.free z.middle z.after.wrote z.log z.port m z.ended z.log_after c.probe.ensures.port
+    refuted_nothing s ring lit c.requires.resting on c.requires.free z.middle z.after.line.wrote z.log z.port m z.ended z.log_after c.probe.ensures.port
 
 pub returns-in-Err-clause-over : goal.returns-in-Err-clause-over
 returns-in-Err-clause-over g c =

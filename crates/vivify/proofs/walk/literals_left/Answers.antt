@@ -1,4 +1,4 @@
-use Rattle.std.proofs.Common.{◌≡◌, ◌∙◌, List, [], Some, sym, ap, subst, arith}
+use Rattle.std.proofs.Common.{◌≡◌, ◌∙◌, ◌<◌, true, List, [], length, Some, sym, ap, subst, arith}
 use Rattle.sat_words.specs.declared.shared.Cref.{Cref}
 use Rattle.sat_words.specs.Literal.{Literal}
 use Rattle.ring_port.specs.PortState.{PortState, clause_at, lits_at}
@@ -6,7 +6,8 @@ use Rattle.ring_port.specs.Port.{AreHints}
 use Rattle.ring_trail.specs.Reasoned.{IsReasoned}
 use Rattle.watch_prop.proofs.TrailLaws.{Reasons-held}
 use Rattle.vivify.specs.Ending.{CanTrace}
-use Rattle.ring_trail.specs.TrailData.{TrailData}
+use Rattle.ring_trail.specs.TrailData.{TrailData, up_to}
+use Rattle.analyze.specs.HintOrder.{AreInTrailOrder}
 use Rattle.watch_prop.specs.WatchData.{attached}
 use Rattle.watch_prop.specs.Watched.{Watched}
 use Rattle.watch_prop.specs.Aside.{but}
@@ -92,23 +93,48 @@ returns-clause-left g c =
 pub returns-clause-implied : goal.returns-clause-implied
 returns-clause-implied g c = (walked g (goal.at.returns-clause-implied g c).In_ok-ending).implied
 
-pub trace_ending-requires-clause-vars : goal.trace_ending-requires-clause-vars
-trace_ending-requires-clause-vars g c =
-    (walked g (goal.at.trace_ending-requires-clause-vars g c).In_ok-ending).above.vars ∙ ap (λ (t : TrailData). t.vars) (c.propagate.ensures.still c.requires.quiet) ∙ sym c.requires.analysis
+pub trace_shorter-requires-clause-vars : goal.trace_shorter-requires-clause-vars
+trace_shorter-requires-clause-vars g c =
+    (walked g (goal.at.trace_shorter-requires-clause-vars g c).In_ok-ending).above.vars ∙ ap (λ (t : TrailData). t.vars) (c.propagate.ensures.still c.requires.quiet) ∙ sym c.requires.analysis
 
-pub trace_ending-requires-clause-reasoned : goal.trace_ending-requires-clause-reasoned
-trace_ending-requires-clause-reasoned g c =
+pub trace_shorter-requires-clause-reasoned : goal.trace_shorter-requires-clause-reasoned
+trace_shorter-requires-clause-reasoned g c =
     let steps = c.walk_clause.new.trail.steps in
     subst (λ (x : PortState). IsReasoned (clause_at x) x.seen steps) (sym (c.walk_clause.ensures.same ∙ c.propagate.ensures.same))
-    (Reasons-held (attached (but (Some c.args.c) c.walk_clause.new.watches)) (g.P.Port.state c.args.port.now) steps (walked g (goal.at.trace_ending-requires-clause-reasoned g c).In_ok-ending).above.reasons)
+    (Reasons-held (attached (but (Some c.args.c) c.walk_clause.new.watches)) (g.P.Port.state c.args.port.now) steps (walked g (goal.at.trace_shorter-requires-clause-reasoned g c).In_ok-ending).above.reasons)
 
-pub trace_ending-requires-clause-can : goal.trace_ending-requires-clause-can
-trace_ending-requires-clause-can g c =
+pub trace_shorter-requires-clause-can : goal.trace_shorter-requires-clause-can
+trace_shorter-requires-clause-can g c =
     subst (λ (kept : List Literal). CanTrace (g.P.Port.state c.walk_clause.new.port) c.walk_clause.new.trail kept c.args.c c.in_ok-ending.ending) (sym c.as_slice.ensures.value)
     (subst (λ (x : PortState). CanTrace x c.walk_clause.new.trail c.walk_clause.new.kept.items c.args.c c.in_ok-ending.ending) (sym (c.walk_clause.ensures.same ∙ c.propagate.ensures.same))
-    (walked g (goal.at.trace_ending-requires-clause-can g c).In_ok-ending).traced)
+    (walked g (goal.at.trace_shorter-requires-clause-can g c).In_ok-ending).traced)
 
 pub returns-clause-hints : goal.returns-clause-hints
 returns-clause-hints g c =
-    subst (λ (x : PortState). AreHints x c.walk_clause.new.kept.items c.trace_ending.new.analysis.hints) (c.walk_clause.ensures.same ∙ c.propagate.ensures.same)
-    (subst (λ (kept : List Literal). AreHints (g.P.Port.state c.walk_clause.new.port) kept c.trace_ending.new.analysis.hints) c.as_slice.ensures.value c.trace_ending.ensures.hints)
+    let a = c.args.c.address in
+    let hints = c.trace_shorter.new.analysis.hints in
+    subst (λ (x : PortState). length c.walk_clause.new.kept.items < length (lits_at x a) → AreHints x c.walk_clause.new.kept.items hints) (c.walk_clause.ensures.same ∙ c.propagate.ensures.same)
+    (subst (λ (kept : List Literal). length kept < length (lits_at (g.P.Port.state c.walk_clause.new.port) a) → AreHints (g.P.Port.state c.walk_clause.new.port) kept hints) c.as_slice.ensures.value c.trace_shorter.ensures.hints)
+
+-- the hints are in the order of the trail on which the walk ended
+pub returns-clause-order : goal.returns-clause-order
+returns-clause-order g c = λ fewer hinted.
+    let s = g.P.Port.state c.args.port.now in
+    let a = c.args.c.address in
+    let u = c.walk_clause.new.trail in
+    let kept = c.walk_clause.new.kept.items in
+    let hints = c.trace_shorter.new.analysis.hints in
+    let w = walked g (goal.at.returns-clause-order g c).In_ok-ending in
+    let start = ap (λ (t : TrailData). up_to 0 t.steps) (c.propagate.ensures.still c.requires.quiet) in
+    let last = subst (λ (x : PortState). length kept < length (lits_at x a) → x.hinted ≡ true → (last : List Literal) × AreInTrailOrder x u.steps last hints) (c.walk_clause.ensures.same ∙ c.propagate.ensures.same)
+    (subst (λ (k : List Literal). length k < length (lits_at (g.P.Port.state c.walk_clause.new.port) a) → (g.P.Port.state c.walk_clause.new.port).hinted ≡ true
+    → (last : List Literal) × AreInTrailOrder (g.P.Port.state c.walk_clause.new.port) u.steps last hints) c.as_slice.ensures.value c.trace_shorter.ensures.order) fewer hinted in
+    record {
+      trail = u;
+      shape = w.above.trail;
+      low = w.above.low ∙ start;
+      reasoned = Reasons-held (attached (but (Some c.args.c) c.walk_clause.new.watches)) s u.steps w.above.reasons;
+      decided = w.decided;
+      last = last.0;
+      order = last.1;
+    }

@@ -47,12 +47,12 @@ use Rattle.ring_pass.proofs.Units.{head_else}
 
 -- One unit
 
-pub may_publish : {lit : Literal} {number : ℕ} {v : View} {seen : List Literal} (found : Bool) → MayList lit number v → seen ≡ (only v).core.seen → found ≡ has seen lit → found ≡ false → MayPublish lit number v
-may_publish {lit} {number} {v} {seen} found m is f e = record { writing = m.writing; whole = m.whole; told = m.told; new = ap (λ (ls : List Literal). has ls lit) (sym is) ∙ sym f ∙ e; vars = m.vars }
+pub may_publish : {lit : Literal} {number : ℕ} {v : View} → MayList lit number v → has (only v).core.seen lit ≡ false → MayPublish lit number v
+may_publish {lit} {number} {v} m new = record { writing = m.writing; whole = m.whole; told = m.told; new = new; vars = m.vars }
 
 -- it was listed
-pub listed_before : {lit : Literal} {number : ℕ} {v : View} {seen : List Literal} (found : Bool) → MayList lit number v → seen ≡ (only v).core.seen → found ≡ has seen lit → found ≡ true → ListedOne v v seen lit
-listed_before {lit} {number} {v} {seen} found m is f e = record {
+pub listed_before : {lit : Literal} {number : ℕ} {v : View} {seen : List Literal} → MayList lit number v → seen ≡ (only v).core.seen → has (only v).core.seen lit ≡ true → ListedOne v v seen lit
+listed_before {lit} {number} {v} {seen} m is there = record {
   part = only v;
   parts = m.writing.0;
   layout = refl;
@@ -73,9 +73,6 @@ listed_before {lit} {number} {v} {seen} found m is f e = record {
   sees = λ k. by k (same lit k) refl;
 }
   where
-    there : has (only v).core.seen lit ≡ true
-    there = ap (λ (ls : List Literal). has ls lit) (sym is) ∙ sym f ∙ e
-
     plain : (a : Bool) → a ≡ (a || false)
     plain true = refl
     plain false = refl

@@ -33,6 +33,13 @@ zip_In (a ∷ xs) [] x e i = absurd (omega arith)
 zip_In (a ∷ xs) (b ∷ ys) x e (inl is) = (b, inl (λ j. (is j, b)))
 zip_In (a ∷ xs) (b ∷ ys) x e (inr i) = let t = zip_In xs ys x (omega arith) i in (t.0, inr t.1)
 
+-- what is paired stands in the first list
+pub zip_first : (xs : List Literal) (ys : List ℕ) (x : Literal) (y : ℕ) → In (x, y) (zip xs ys) → In x xs
+zip_first [] ys x y i = absurd i
+zip_first (a ∷ xs) [] x y i = absurd i
+zip_first (a ∷ xs) (b ∷ ys) x y (inl is) = inl (λ j. (is j).0)
+zip_first (a ∷ xs) (b ∷ ys) x y (inr i) = inr (zip_first xs ys x y i)
+
 -- Numbers among units
 
 -- a unit's number that is not 0 stands with it

@@ -73,7 +73,7 @@ ring_stays {B} {t} {p} {n} {st} {o} q r pass same looked =
       free = ap (λ (x : RingPart). x.turn) (sym e) ∙ r.free;
       home = refl;
       hinted = r.hinted ∙ ap (λ (x : CoreOpening). x.hinted) (sym looked.opening);
-      numbers = λ h. numbers_keep (ap (λ (x : RingPart). x.core.seen) (sym e)) (ap (λ (x : RingPart). x.core.numbers) (sym e)) (ap (λ (l : Layout). l.vars) looked.layout) (r.numbers h);
+      numbers = numbers_keep (ap (λ (x : RingPart). x.core.seen) (sym e)) (ap (λ (x : RingPart). x.core.numbers) (sym e)) (ap (λ (l : Layout). l.vars) looked.layout) r.numbers;
       start = r.start ∙ ap (λ (x : CoreOpening). addresses x.starts) (sym looked.opening);
       own = subst (λ (x : RingPart). IsOwn x (record o { home = home_of q })) e (renamed (only p.me.0) o (home_of q) r.own);
       alone_is = λ lone f. r.alone_is (ap (λ (x : CoreOpening). x.rings) (sym looked.opening) ∙ lone) (ap (λ (x : RingPart). x.failed) e ∙ f);
@@ -149,7 +149,7 @@ ring_changes {B} {t} {p} {n} {st} {o} q x o' r pass same opening is ring turn ho
       free = ap (λ (y : RingPart). y.turn) (sym e) ∙ turn ∙ r.free;
       home = home;
       hinted = tells ∙ r.hinted ∙ ap (λ (y : CoreOpening). y.hinted) (sym opening);
-      numbers = λ h. numbers_keep (ap (λ (y : RingPart). y.core.seen) (sym e)) (ap (λ (y : RingPart). y.core.numbers) (sym e)) (ap (λ (l : Layout). l.vars) (pass.2 ∙ sym r.pass.2)) (numbers (r.numbers (sym tells ∙ h)));
+      numbers = numbers_keep (ap (λ (y : RingPart). y.core.seen) (sym e)) (ap (λ (y : RingPart). y.core.numbers) (sym e)) (ap (λ (l : Layout). l.vars) (pass.2 ∙ sym r.pass.2)) (numbers r.numbers);
       start = r.start ∙ ap (λ (y : CoreOpening). addresses y.starts) (sym opening);
       own = subst (λ (y : RingPart). IsOwn y o') e own;
       alone_is = λ lone f. alone (ap (λ (y : CoreOpening). y.rings) (sym opening) ∙ lone) (ap (λ (y : RingPart). y.failed) e ∙ f);

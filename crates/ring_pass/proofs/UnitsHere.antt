@@ -44,7 +44,7 @@ use Rattle.ring_pass.specs.Writes.{entries_of, sheet_with, Wrote}
 use Rattle.ring_pass.proofs.EndsHere.{ends_here}
 use Rattle.ring_pass.proofs.PollsHere.{port_step}
 use Rattle.ring_pass.proofs.SeenHere.{less_counted, filter_passes, rest_distinct}
-use Rattle.ring_pass.specs.Numbers.{KeepsNumbers}
+use Rattle.ring_pass.specs.Numbers.{KnowsNumbers, KeepsNumbers}
 use Rattle.ring_pass.proofs.NumbersHere.{numbers_keep}
 use Rattle.ring_pass.proofs.Stays.{only_is, one_is, numbers_then}
 use Rattle.ring_pass.proofs.TurnsHere.{mine_last, ticket_as, port_going, ring_turns, room_turns, units_turns}
@@ -85,6 +85,11 @@ line_numbered {v} {u} {kind} {lit} {hints} {number} h =
 
 pub line_units : {v u : View} {kind : Kind} {lit : Literal} {hints : List ℕ} (seen : List Literal) (a b : ℕ) → Wrote v u (UnitNote kind lit hints) → HasUnits (only v) v.layout.vars seen a b → HasUnits (only u) u.layout.vars seen a b
 line_units {v} {u} {kind} {lit} {hints} seen a b h m = units_turns v u (unit_line v h.journal kind lit hints h.refused h.failed) seen a b h.gave.layout h.gave.parts refl m
+
+pub line_numbers : {v u : View} {kind : Kind} {lit : Literal} {hints : List ℕ} (table : List ℕ) → Wrote v u (UnitNote kind lit hints) → KnowsNumbers v table → KnowsNumbers u table
+line_numbers {v} {u} {kind} {lit} {hints} table h m =
+    let is = line_is h in
+    numbers_keep (ap (λ (p : RingPart). p.core.seen) is) (ap (λ (p : RingPart). p.core.numbers) is) (ap (λ (y : Layout). y.vars) h.gave.layout) m
 
 pub line_told : {v u : View} {kind : Kind} {lit : Literal} {hints : List ℕ} (arrived : List Literal) → Wrote v u (UnitNote kind lit hints) → All (λ l. has (only v).core.seen l ≡ true) arrived → All (λ l. has (only u).core.seen l ≡ true) arrived
 line_told {v} {u} {kind} {lit} {hints} arrived h told = subst (λ (p : RingPart). All (λ l. has p.core.seen l ≡ true) arrived) (sym (line_is h)) told
@@ -255,7 +260,7 @@ ring_unit {B} {t} {p} {n} {st} {o} {w} {kind} {lit} {hints} {arrived'} {last} q 
     refl
     (λ m.
     let vars = ap (λ (y : Layout). y.vars) h.gave.layout in
-    numbers_keep refl refl (sym vars) (numbers_then w q.me.0 l.part o.numbers table l.parts l.layout keeps (numbers_keep (ap (λ (x : RingPart). x.core.seen) is) (ap (λ (x : RingPart). x.core.numbers) is) vars m)))
+    numbers_keep refl refl (sym vars) (numbers_then w q.me.0 l.part o.numbers table l.parts l.layout keeps (line_numbers o.numbers h m)))
 
 pub room_unit : {v w u : View} {kind : Kind} {lit : Literal} {hints : List ℕ} {arrived arrived' : List Literal} (last : Option Cref) (ws : List Waiting) (room : ℕ) → Wrote v w (UnitNote kind lit hints) → Listed w u arrived arrived' lit → HasRoom (only v) v.opening.rings last ws room → HasRoom (only u) u.opening.rings last ws room
 room_unit {v} {w} {u} {kind} {lit} {hints} {arrived} {arrived'} last ws room h l m =

@@ -15,6 +15,10 @@ pub record HasNumbers (seen : List Literal) (numbers : List ℕ) (vars : ℕ) (t
   pub places : 2 * vars + 2 ≤ length table
   pub there : (l : Literal) → slice_index table (code_of l) ≡ number_among (zip seen numbers) l
 
+-- the table has the numbers of the units that the ring has seen
+abbrev pub KnowsNumbers : View → List ℕ → Type 0
+KnowsNumbers v table = HasNumbers (only v).core.seen (only v).core.numbers v.layout.vars table
+
 -- a table that had the numbers of the units seen has those of the units seen now
 abbrev pub KeepsNumbers : View → View → List ℕ → List ℕ → Type 0
-KeepsNumbers v w old new = HasNumbers (only v).core.seen (only v).core.numbers v.layout.vars old → HasNumbers (only w).core.seen (only w).core.numbers w.layout.vars new
+KeepsNumbers v w old new = KnowsNumbers v old → KnowsNumbers w new

@@ -27,7 +27,7 @@ use Rattle.ring_port.specs.Exchange.{puts_for}
 use Rattle.ring_port.specs.Port.{is_usable}
 use Rattle.ring_port.specs.PortState.{Holding, Offer, Slot, PortState}
 use Rattle.ring_pass.specs.declared.spares.Spares.{Spares}
-use Rattle.ring_pass.specs.Numbers.{HasNumbers}
+use Rattle.ring_pass.specs.Numbers.{KnowsNumbers}
 use Rattle.ring_pass.specs.Refusals.{last_refusal}
 use Rattle.ring_pass.specs.Sights.{wrote_unit}
 use Rattle.ring_pass.specs.declared.waiting.Waiting.{Waiting}
@@ -52,7 +52,7 @@ pub record Own : Type 0 where
   pub ended : Bool
   -- whether the log has hints
   pub hinted : Bool
-  -- in a log with hints, the numbers of the units that it has seen, by the codes of their literals
+  -- the numbers of the units that it has seen, by the codes of their literals
   pub numbers : List ℕ
   -- the name of the table
   pub home : List ℕ
@@ -208,7 +208,7 @@ pub record CanOffer (p : RingPart) (o : CoreOpening) (last : Option Cref) (s : S
   pub places : AreNext p.core.ring p.core.puts o s.places
 
 -- the pass has this ring alone, which has not the turn; these are the addresses of the start clauses; a lone ring that knows of a
--- failed write was refused for a fault; in a log with hints the numbers of all units seen are kept
+-- failed write was refused for a fault; the numbers of all units seen are kept
 pub record IsRingPass {B : Type 0} (t : Shared B) (p : Seat (Option B) View) (n : ℕ) (starts : List Cref) (o : Own) : Type 0 where
   pub pass : IsPassOf t p
   pub slots : p.me.1 ≡ []
@@ -217,7 +217,7 @@ pub record IsRingPass {B : Type 0} (t : Shared B) (p : Seat (Option B) View) (n 
   pub free : (only p.me.0).turn ≡ None
   pub home : o.home ≡ home_of p
   pub hinted : o.hinted ≡ p.me.0.opening.hinted
-  pub numbers : o.hinted ≡ true → HasNumbers (only p.me.0).core.seen (only p.me.0).core.numbers p.me.0.layout.vars o.numbers
+  pub numbers : KnowsNumbers p.me.0 o.numbers
   pub start : starts ≡ addresses p.me.0.opening.starts
   pub own : IsOwn (only p.me.0) o
   pub alone_is : p.me.0.opening.rings ≡ 1 → (only p.me.0).failed ≡ true → is_usable o.refused ≡ false

@@ -5,7 +5,8 @@
 //! that wait for nobody. A clause is read only while the ring holds it: its number and literals are read before its last count may go, since its
 //! deletion will need them. An offer takes no memory: room for what comes back in it is taken when the clause is learned.
 //! Listed units are seen one by one, and kept until they are given; a unit of the ring's own is listed in a second turn, once
-//! its line stands. In a log with hints the number of each unit that is seen is kept in a table, by the code of its literal.
+//! its line stands. The number of each unit that is seen is kept in a table, by the code of its literal, which also tells whether
+//! a unit is listed.
 #![tactic(auto)]
 
 mod additions;

@@ -1,18 +1,15 @@
 // The numbers of units, kept by the codes of their literals.
-ghost use Rattle.std.specs.Prelude.{◌≡◌, ◌≢◌, [], true, IfOk, MatchOption, slice_index, slice_set};
+ghost use Rattle.std.specs.Prelude.{◌≡◌, ◌≢◌, [], IfOk, MatchOption, slice_index, slice_set};
 ghost use Rattle.sat_words.specs.Literal.{code_of};
 ghost use Rattle.ring_pass.specs.Numbers.{HasNumbers};
 
 use sat_words::Lit;
 use std::alloc::{AllocError, Global};
 
-/// A table for the numbers of units on the variables up to this one, which has none yet; in a log without hints it has no place.
-pub(crate) fn no_numbers(alloc: Global, hinted: bool, vars: u32) -> Result<Vec<u64>, AllocError>
-    ensures { IfOk result (λ table. (hinted ≡ true → HasNumbers [] [] vars table.items)) }
+/// A table for the numbers of units on the variables up to this one, which has none yet.
+pub(crate) fn no_numbers(alloc: Global, vars: u32) -> Result<Vec<u64>, AllocError>
+    ensures { IfOk result (λ table. HasNumbers [] [] vars table.items) }
 {
-    if !hinted {
-        return Ok(Vec::new(alloc));
-    }
     vec![in alloc; 0; 2 * (vars as usize + 1)]
 }
 

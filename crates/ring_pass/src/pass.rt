@@ -87,8 +87,8 @@ impl<'a, S: Sink, G: Gate, H> Model for RingPass<'a, S, G, H> {
 
 impl<'a, S: Sink, G: Gate, H> RingPass<'a, S, G, H> {
     /// The port of the ring that has this pass, whose grant it has taken and nothing else done. `start` has the addresses of
-    /// the start clauses, in their order. Room is taken for all units that may ever be listed, and in a log with hints for their
-    /// numbers; refused for memory it gives the pass back.
+    /// the start clauses, in their order; `hinted` says whether additions to the log have hints. Room is taken for all units that
+    /// may ever be listed, and for their numbers; refused for memory it gives the pass back.
     pub fn new(
         alloc: Global,
         table: &'a Shared<Book<S>>,
@@ -115,7 +115,7 @@ impl<'a, S: Sink, G: Gate, H> RingPass<'a, S, G, H> {
         let Ok(arrived) = Vec::with_capacity(alloc, room) else {
             return Err(AllocFailed { value: pass });
         };
-        let Ok(numbers) = no_numbers(alloc, hinted, table.layout.vars) else {
+        let Ok(numbers) = no_numbers(alloc, table.layout.vars) else {
             return Err(AllocFailed { value: pass });
         };
         Ok(RingPass {

@@ -5,11 +5,11 @@ ghost use Rattle.share_rule.specs.Passes.{IsPassOf, IsSamePass};
 ghost use Rattle.share_rule.specs.Layout.{InVars};
 ghost use Rattle.share_rule.specs.Turns.{IsFree};
 ghost use Rattle.share_rule.specs.Views.{only};
-ghost use Rattle.ring_pass.specs.Numbers.{KeepsNumbers};
+ghost use Rattle.ring_pass.specs.Numbers.{KnowsNumbers, KeepsNumbers};
 ghost use Rattle.ring_pass.specs.RingState.{HasUnits};
 ghost use Rattle.ring_pass.specs.Sights.{SawOne, SawAll, SawRest, MayList, ListedOne, Listed, LeftOut, HasNumbered};
 
-use crate::numbers::note_number;
+use crate::numbers::{note_number, number_of};
 use io_edge::Sink;
 use log_book::{Book, give_turn, take_turn};
 use sat_words::Lit;
@@ -60,13 +60,6 @@ fn see_all<B: Ledger>(
     while let Some(_) = see_next(table, pass, seen, arrived, numbers) {}
 }
 
-/// Whether the literal is among these.
-fn contains(lits: &[Lit], lit: Lit) -> bool
-    ensures { result ≡ has lits.now lit }
-{
-    lits.iter().any(|k| lit == *k)
-}
-
 /// Lists a unit, unless it is listed.
 fn list_new<B: Ledger>(
     table: &Shared<B>,
@@ -79,12 +72,13 @@ fn list_new<B: Ledger>(
     requires pass { IsPassOf table.now pass.old }
     requires unit { MayList lit number pass.old.me.0 }
     requires seen { (seen.old.items ≡ (only pass.old.me.0).core.seen) × (2 * pass.old.me.0.layout.vars ≤ vec_capacity seen.old) }
+    requires numbers { KnowsNumbers pass.old.me.0 numbers.old.items }
     ensures pass { IsPassOf table.now pass.new × IsSamePass pass.old pass.new }
     ensures numbers { KeepsNumbers pass.old.me.0 pass.new.me.0 numbers.old.items numbers.new.items }
     ensures listed { ListedOne pass.old.me.0 pass.new.me.0 seen.new.items lit }
     ensures room { vec_capacity seen.new ≡ vec_capacity seen.old }
 {
-    if contains(seen.as_slice(), lit) {
+    if number_of(numbers.as_slice(), lit).is_some() {
         return;
     }
     unit_share::publish(table, pass, lit, number, seen.len() as u64);
@@ -112,6 +106,7 @@ pub(crate) fn list_unit<H: Wait, S: Sink>(
     requires arrived { (distinct_lits arrived.old.items ≡ true) × All (λ l. has (only pass.old.me.0).core.seen l ≡ true) arrived.old.items }
     requires written { HasNumbered (only pass.old.me.0) lit number }
     requires on { InVars pass.old.me.0.layout (lit ∷ []) }
+    requires numbers { KnowsNumbers pass.old.me.0 numbers.old.items }
     ensures pass { IsPassOf table.now pass.new × (pass.new.id ≡ pass.old.id) × (pass.new.me.1 ≡ []) }
     ensures numbers { KeepsNumbers pass.old.me.0 pass.new.me.0 numbers.old.items numbers.new.items }
     ensures listed { Listed pass.old.me.0 pass.new.me.0 arrived.old.items arrived.new.items lit }

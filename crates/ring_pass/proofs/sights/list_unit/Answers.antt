@@ -1,7 +1,7 @@
 use Rattle.std.proofs.Common.{◌∙◌, vec_capacity}
 use Rattle.share_rule.specs.Turns.{take_part}
 use Rattle.share_rule.specs.Views.{only}
-use Rattle.ring_pass.proofs.NumbersSeen.{listed_numbers}
+use Rattle.ring_pass.proofs.NumbersSeen.{turn_numbers, listed_numbers}
 use Rattle.ring_pass.proofs.ListsHere.{may_list, turn_still, listed_all, units_listed, turn_seen}
 use Rattle.ring_pass.proofs.Stays.{one_is}
 use Rattle.ring_pass.proofs.TurnsHere.{turn_taken, failed_taken, alone_taken}
@@ -32,6 +32,11 @@ list_new-requires-clause-unit g c =
 
 pub list_new-requires-clause-seen : goal.list_new-requires-clause-seen
 list_new-requires-clause-seen g c = (c.see_all.ensures.units.all, c.see_all.ensures.units.seen_room_is)
+
+pub list_new-requires-clause-numbers : goal.list_new-requires-clause-numbers
+list_new-requires-clause-numbers g c =
+    let e = c.take_turn-turn.ensures in
+    c.see_all.ensures.numbers (turn_numbers c.args.pass.now.me.0 c.take_turn-turn.new.pass.me.0 e.turn.taken.book.journal _ c.args.numbers.now.items (turn_taken c.requires.ring.0.0 e.turn) c.requires.numbers)
 
 pub give_turn-requires-clause-pass : goal.give_turn-requires-clause-pass
 give_turn-requires-clause-pass g c = (c.list_new.ensures.pass.0, c.list_new.ensures.pass.1.1 ∙ c.see_all.ensures.pass.1.1 ∙ c.take_turn-turn.ensures.pass.2)

@@ -12,7 +12,7 @@ use Rattle.ring_pass.proofs.LearnsHere.{may_learn_here, room_none, offer_none, u
 use Rattle.ring_pass.proofs.OfferTurns.{offer_refused}
 use Rattle.ring_pass.proofs.Stays.{own_in, ring_port, name_stays}
 use Rattle.ring_pass.proofs.TurnsHere.{refused_as, ring_refused, room_refused, units_refused}
-use Rattle.ring_pass.proofs.UnitsHere.{unit_on, line_free, line_numbered, line_units, line_told, line_on, learned_as, ring_unit, room_unit, offer_unit, arrived_passed, unit_ends}
+use Rattle.ring_pass.proofs.UnitsHere.{unit_on, line_free, line_numbered, line_units, line_numbers, line_told, line_on, learned_as, ring_unit, room_unit, offer_unit, arrived_passed, unit_ends}
 use Rattle.ring_pass.proofs.pass.RingPass.learn_unit.Goals as goal
 
 pub write_unit-written-requires-clause-follows : goal.write_unit-written-requires-clause-follows
@@ -43,6 +43,11 @@ pub list_unit-requires-clause-on : goal.list_unit-requires-clause-on
 list_unit-requires-clause-on g c =
     let w = (subst (λ r. IfOk r (WroteUnitLine c.self.inside.pass.me.0 c.write_unit-written.new.pass.me.0 Learn c.args.lit c.args.hints.now)) c.in-Ok.is c.write_unit-written.ensures.wrote).wrote in
     line_on w (unit_on c.self.inside.pass.me.0 (own_in c.self.invariant.0) c.args.self.now c.args.lit c.self.view_is c.requires.on)
+
+pub list_unit-requires-clause-numbers : goal.list_unit-requires-clause-numbers
+list_unit-requires-clause-numbers g c =
+    let w = (subst (λ r. IfOk r (WroteUnitLine c.self.inside.pass.me.0 c.write_unit-written.new.pass.me.0 Learn c.args.lit c.args.hints.now)) c.in-Ok.is c.write_unit-written.ensures.wrote).wrote in
+    line_numbers c.self.inside.numbers.items w c.self.invariant.0.numbers
 
 pub leave_out-requires-clause-passed : goal.leave_out-requires-clause-passed
 leave_out-requires-clause-passed g c =

@@ -65,7 +65,6 @@ use Rattle.core_rounds.specs.Rounds.{RoundRun}
 use Rattle.ring_run.specs.declared.job.Counts.{Counts}
 use Rattle.ring_run.specs.declared.job.End.{End}
 use Rattle.portfolio_run.specs.declared.plan.Plan.{Plan}
-use Rattle.portfolio_run.specs.declared.rests.TheConstants.{KEPT_GLUE}
 use Rattle.portfolio_run.specs.Journaled.{IsUnrefuted}
 use Rattle.portfolio_run.specs.Pauses.{IsLeft}
 use Rattle.portfolio_run.specs.Reached.{RanAt}
@@ -323,7 +322,7 @@ module _ (F : FormulaData) (left : Simplified) (l : Layout) (hinted : Bool) (J0 
     kept_start p i =
         let t = cell_for p i in
         let x : Rest = rest_of s.glue t.1 in
-        let stays : not (is_dropped x) ≡ true = ap not (ap (nat_lt KEPT_GLUE) t.3 ∙ none_less KEPT_GLUE) in
+        let stays : not (is_dropped x) ≡ true = ap not (ap (nat_lt 2) t.3 ∙ none_less 2) in
         let j : In (cell_of x) (kept_of rests) = In_map cell_of (filter (λ (q : Rest). not (is_dropped q)) rests) x (In_filter (λ (q : Rest). not (is_dropped q)) rests x (told_at t.0 t.1 t.2) stays) in
         let lits : clause_of t.1.lits ≡ p.1 = ap clause_of t.5 ∙ start_in_order F left J0 h p i in
         subst (λ (q : Pair). In q (kept_of rests)) (λ k. (t.4 k, lits k)) j
@@ -340,7 +339,7 @@ module _ (F : FormulaData) (left : Simplified) (l : Layout) (hinted : Bool) (J0 
         let t = cell_for q.0 q.1 in
         let number : y.1.number ≡ t.1.number = sym (ap (λ (x : Rest). x.number) y.3) ∙ d.2 ∙ sym q.2 ∙ sym t.4 in
         let glue : d.0.glue ≡ 0 = ap (λ (x : Rest). x.glue) y.3 ∙ ap s.glue number ∙ t.3 in
-        true≢false (sym f.1 ∙ ap (nat_lt KEPT_GLUE) glue ∙ none_less KEPT_GLUE))
+        true≢false (sym f.1 ∙ ap (nat_lt 2) glue ∙ none_less 2))
 
     pub are_dropped : (x : RoundRun) → x.opening ≡ s.core.opening → AreDropped x (dropped_of rests)
     are_dropped x is = record {

@@ -18,12 +18,11 @@ use Rattle.simp_base.specs.Causes.{HasOutputCause}
 use Rattle.ruler_simp.specs.declared.ruling.Outcome.{Outcome}
 use Rattle.ruler_simp.specs.declared.rounds.Schedule.{Schedule}
 use Rattle.ruler_simp.specs.Again.{RuledAgain}
-use Rattle.portfolio_run.specs.declared.rests.TheConstants.{KEPT_GLUE}
 use Rattle.portfolio_run.specs.Rulings.{deletions}
 
--- the clause is deleted: its glue is great
+-- the clause is deleted: its glue is above 2
 abbrev pub is_dropped : Rest → Bool
-is_dropped r = nat_lt KEPT_GLUE r.glue
+is_dropped r = nat_lt 2 r.glue
 
 -- a clause under its number
 abbrev pub cell_of : Rest → ℕ × List Literal

@@ -1,9 +1,8 @@
 -- What it means that there was no room, over the whole journal of a run.
-use Rattle.std.specs.Prelude.{◌≡◌, ◌⊎◌, ◌≤◌, ◌+◌, ℕ, List, ◌++◌, length, Option, Some}
+use Rattle.std.specs.Prelude.{◌≡◌, ◌⊎◌, ◌≤◌, ◌+◌, ◌^◌, ℕ, List, ◌++◌, length, Option, Some}
 use mathlib.Core.Logic.{inl, inr}
 use Rattle.sat_words.specs.Literal.{Literal}
 use Rattle.sat_words.specs.declared.shared.NoRoom.{NoRoom}
-use Rattle.sat_words.specs.declared.shared.TheConstants.{MAX_ENTRIES}
 use Rattle.rup_model.specs.declared.journal.Round.{Round as RoundStart}
 use Rattle.rup_model.specs.declared.journal.Entry.{Entry}
 use Rattle.rup_model.specs.Opening.{program_opening}
@@ -22,11 +21,11 @@ use Rattle.portfolio_run.specs.Held.{IsHeld, RestsBetween}
 abbrev pub layout_of : Plan → (vars limit : ℕ) → Layout
 layout_of plan vars limit = record { rings = plan.threads; vars = vars; words = plan.words; depth = plan.slots; conflicts = limit }
 
--- the journal is full, and the numbers count entries
+-- the journal is full, with 2^48 entries, and the numbers count entries
 pub record IsFullJournal (journal : List Entry) (lack : NoRoom) : Type 0 where
-  pub full : MAX_ENTRIES ≤ length journal
-  pub need_is : lack.need ≡ MAX_ENTRIES + 1
-  pub most_is : lack.largest ≡ MAX_ENTRIES
+  pub full : 2 ^ 48 ≤ length journal
+  pub need_is : lack.need ≡ 2 ^ 48 + 1
+  pub most_is : lack.largest ≡ 2 ^ 48
 
 -- a round has begun, and a start clause of the program's opening before it found no free range that is long enough
 pub record IsUnplaced (layout : Layout) {rings slots : ℕ} {every : Option ℕ} {most : ℕ} {clauses : List (List Literal)} {journal : List Entry} {tally : List Counts} (rests : RestsBetween rings slots every most clauses journal tally) (lack : NoRoom) : Type 0 where

@@ -4,12 +4,11 @@ use Rattle.std.specs.declared.option.Option.{Option}
 use Rattle.sat_words.specs.Formats.{has_hints}
 use Rattle.portfolio_run.specs.declared.plan.Plan.{Plan as SearchPlan}
 use Rattle.top_call.specs.declared.plan.CallPlan.{CallPlan}
-use Rattle.top_call.specs.declared.plan.TheConstants.{ROUNDS}
 use Rattle.top_call.specs.Words.{Command, proof_format}
 
 -- how many rounds of simplifiers the ruler may take before each round of the rings
 abbrev pub rounds_of : Bool → ℕ
-rounds_of no_simplify = if no_simplify then 0 else ROUNDS
+rounds_of no_simplify = if no_simplify then 0 else 3
 
 -- how the ruler and the rings are to search
 abbrev pub search_of : Command → SearchPlan

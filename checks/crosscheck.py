@@ -492,6 +492,7 @@ def try_itself():
     must_catch("a lemma changed", lambda: check_proof([[1, 2], [1, -2]], b"-1 0\n"))
     must_catch("a deletion of no clause", lambda: check_proof([[1, 2]], b"d 1 3 0\n"))
     must_catch("a line cut short", lambda: check_proof(clauses, b"1 0\n0"))
+    must_catch("a byte outside ASCII", lambda: check_proof(clauses, b"1 0\n\xff 0\n"))
     must_catch("a proof without its end", lambda: check_answer(2, clauses, 20, "s UNSATISFIABLE\n", "", b"1 0\n", False))
     check_answer(2, clauses, 20, "s UNSATISFIABLE\n", "", b"a\2\0d\5\2\0a\0", False, form="binary")
     must_catch("a sign turned in binary", lambda: check_proof([[1, 2], [1, -2]], b"a\3\0", "binary"))
@@ -509,6 +510,12 @@ def try_itself():
         ("a deletion of a number that is not alive", b"5 d 1 0\n6 0 5 3 4 0\n"),
         ("a deletion led by its own number", b"3 d 3 0\n"),
         ("a literal that is true and is forced again", b"6 0 5 5 3 4 0\n"),
+        ("a negative hint", b"6 0 5 3 -4 0\n"),
+        ("a line behind the empty clause", b"6 0 5 3 4 0\n7 2 0 5 3 0\n"),
+        ("a deletion of a unit", b"5 d 5 0\n"),
+        ("a repeated literal", b"6 2 2 0 5 3 0\n"),
+        ("a literal and its negation", b"6 1 -1 0 5 0\n"),
+        ("a byte outside ASCII", b"6 0 5 3 \xb2 0\n"),
     ]:
         must_catch(what, lambda: check_proof(clauses, b"5 1 0 1 2 0\n5 d 1 0\n" + line, "lrat"))
     check_answer(2, clauses, 0, "s UNKNOWN\n", "", b"1 0\n", False, limit=1, rings=1)

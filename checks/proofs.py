@@ -3,8 +3,8 @@
 In DRAT, as text or in binary, an added clause must follow by unit propagation (RUP), or on its first literal (RAT), from the clauses that
 are alive, and a deletion must name a clause of two literals or more that is. In LRAT the hints of an added clause are followed, and
 nothing else is: each but the last names a clause with exactly one literal that isn't false, and that literal isn't true yet; the last
-names a clause whose literals are all false. Numbers are given in order after those of the formula's clauses. Nothing here shares code
-with the program.
+names a clause whose literals are all false. No hint is negative, so that nothing follows on a literal there, and no line names a
+variable twice. Numbers are given in order after those of the formula's clauses. Nothing here shares code with the program.
 """
 
 import re
@@ -57,6 +57,8 @@ def is_rat(clauses, literals):
 
 def whole_lines(proof):
     """The lines of a text, each with its newline."""
+    if not proof.isascii():
+        raise Wrong("the proof has a byte outside ASCII")
     text = proof.decode("ascii")
     if text and not text.endswith("\n"):
         raise Wrong("the proof's last line has no newline")
@@ -131,6 +133,8 @@ def lrat_lines(clauses, proof):
         added, deleted = ADDED.fullmatch(line), DELETED.fullmatch(line)
         if added:
             literals = [int(word) for word in added.group(2).split()]
+            if len({abs(literal) for literal in literals}) != len(literals):
+                raise Wrong("line %d of the proof names a variable twice: %r" % (place, line))
             if int(added.group(1)) != last + 1:
                 raise Wrong("line %d of the proof has a number that is not the next one" % place)
             if not is_hinted(alive, literals, [int(word) for word in added.group(3).split()]):

@@ -40,7 +40,7 @@ struct Row {
     compares_proof: bool,
     /// What the proof begins with.
     front: &'static [u8],
-    /// Whether the proof's last line is the empty clause, and no other line is.
+    /// Whether the proof's last line is the empty clause, and no other line is. In LRAT each line then has hints.
     ends_log: bool,
     /// Whether all that the proof's writer took was flushed, else none of it.
     flushes_proof: bool,
@@ -198,6 +198,25 @@ fn empty_lines(bytes: &[u8], format: &str) -> (u64, bool) {
     (count, last)
 }
 
+/// Whether a line in LRAT deletes, or names clauses between the 0 behind its literals and the one at its end.
+fn has_hints(line: &[u8]) -> bool {
+    let mut words = line.split(|byte| *byte == b' ');
+    let _number = words.next();
+    if words.next().is_some_and(|word| is_same(word, b"d")) {
+        return true;
+    }
+    let words = line.split(|byte| *byte == b' ');
+    words.skip_while(|word| !is_same(word, b"0")).count() > 2 && line.ends_with(b" 0")
+}
+
+/// Whether each line has hints, where the format has them.
+fn lines_have_hints(bytes: &[u8], format: &str) -> bool {
+    format != "--lrat"
+        || bytes
+            .split(|byte| *byte == b'\n')
+            .all(|line| line.is_empty() || has_hints(line))
+}
+
 /// The word that asks for the format of the proof, if one does.
 fn format_of<'a>(words: &[&'a str]) -> &'a str {
     if words.contains(&"--binary") {
@@ -217,6 +236,7 @@ fn check_writer(rt: &impl Abort, row: &Row, wanted: &[u8], writer: &MemSink<'_>)
     if row.ends_log {
         let format = format_of(row.words);
         assert_eq!(rt; empty_lines(taken, format), (1, true));
+        assert!(rt; lines_have_hints(taken, format));
     }
     let sure: &[u8] = if row.flushes_proof { taken } else { b"" };
     assert!(rt; is_same(writer.flushed_bytes(), sure));
@@ -1413,7 +1433,8 @@ fn lemmas_of_all_rings(rt: HostRuntime) -> Result<(), Fail> {
     check_row(&rt, checked, 65536)
 }
 
-/// In rounds of one lemma the rings learn as many together as they may, and one log is accepted.
+/// In rounds of one lemma the rings learn as many together as they may, and one log is accepted, with hints too, which go on from
+/// round to round.
 #[test]
 fn rounds_of_one_lemma(rt: HostRuntime) -> Result<(), Fail> {
     let row = Row {
@@ -1443,8 +1464,24 @@ fn rounds_of_one_lemma(rt: HostRuntime) -> Result<(), Fail> {
         at_least: 3,
         ..row
     };
+    let hinted = Row {
+        words: &[
+            "--threads",
+            "4",
+            "--no-simplify",
+            "--check",
+            "--round",
+            "1",
+            "--lrat",
+            "--proof",
+            "P",
+        ],
+        ends_log: true,
+        ..refuted
+    };
     check_row(&rt, row, 65536)?;
-    check_row(&rt, refuted, 65536)
+    check_row(&rt, refuted, 65536)?;
+    check_row(&rt, hinted, 65536)
 }
 
 /// On 28 variables. Of rounds of one lemma the third finds a model, and the ruler puts entries onto the stack before each of the three.

@@ -48,8 +48,25 @@ pub fn open_problem<L: LineOut + Drop>(
     Ok(port)
 }
 
-/// The port in memory over a problem, whose lines are only counted and which has no ticket, and the addresses of its start
-/// clauses.
+/// The port in memory over a problem, which has no ticket, and the addresses of its start clauses.
+pub fn open_over<L: LineOut + Drop>(
+    alloc: Global,
+    problem: Problem,
+    lines: L,
+) -> Result<(PlainPort<L>, Vec<Cref>), Fail>
+    requires none { (L.told lines).entries ≡ 0 }
+    requires last { (L.told lines).last ≡ length problem.formula.clauses }
+    requires unspent { (L.told lines).spent ≡ false }
+    ensures made { IfOk result (λ opened. opened.0.state ≡ begun_with problem.formula.vars problem.start.items problem.listed.items (L.told lines) 0) }
+    ensures start { IfOk result (λ opened. opened.1.items ≡ map (λ (h : Holding). record { address = h.address }) opened.0.state.start) }
+    ensures held { IfOk result (λ opened. All (λ (c : Cref). IsSome (held_at opened.0.state c.address)) opened.1.items) }
+{
+    let port = open_problem(alloc, problem, 0, lines)?;
+    let start = port.start(alloc)?;
+    Ok((port, start))
+}
+
+/// The same whose lines are only counted.
 pub fn open_counted(
     alloc: Global,
     problem: Problem,
@@ -59,9 +76,7 @@ pub fn open_counted(
     ensures held { IfOk result (λ opened. All (λ (c : Cref). IsSome (held_at opened.0.state c.address)) opened.1.items) }
 {
     let lines = CountedLines::new(problem.formula.clauses().len() as u64, 0);
-    let port = open_problem(alloc, problem, 0, lines)?;
-    let start = port.start(alloc)?;
-    Ok((port, start))
+    open_over(alloc, problem, lines)
 }
 
 /// The port in memory over a problem, with so many tickets, and the job of a ring that searches there alone.

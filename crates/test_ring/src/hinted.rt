@@ -1,11 +1,11 @@
 // `ring_run` over logs in LRAT: each line has hints that show that its clause follows.
-use crate::follower::Follower;
 use crate::long_runs::chosen_clauses;
 use crate::runs::{Kind, eight_clauses, four_clauses, kind_of, run_in, three_clauses, two_units};
 use sat_words::ProofFormat;
 use std::alloc::Global;
 use std::test::Fail;
 use test_formulas::Problem;
+use test_hints::Follower;
 
 /// Room for the text of a proof, in bytes.
 const ROOM: usize = 1 << 23;

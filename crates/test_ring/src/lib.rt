@@ -8,8 +8,6 @@ mod crowd_runs;
 #[cfg(test)]
 mod failed_literals;
 #[cfg(test)]
-mod follower;
-#[cfg(test)]
 mod hinted;
 #[cfg(test)]
 mod long_runs;

@@ -6,14 +6,16 @@ ghost use Rattle.ring_port.specs.PortState.{held_at, lits_at};
 ghost use Rattle.watch_prop.specs.Propagation.{IsConflict};
 ghost use Rattle.test_ring.specs.Stepping.{IsStepping};
 
-use crate::beginning::open_counted;
+use crate::beginning::{open_counted, open_over};
 use crate::stepping::{Stepping, quiet_start};
 use crate::steps::row_clauses;
 use analyze::{Analysis, Conclusion};
+use drat_text::SinkLines;
+use io_edge::MemSink;
 use restart_plan::{Restarts, luby};
 use ring_port::{Port, Set, class_of};
 use ring_trail::Trail;
-use sat_words::{Cref, Lit, STOP_SAT};
+use sat_words::{Cref, Lit, ProofFormat, STOP_SAT};
 use std::alloc::Global;
 use std::test::Fail;
 use watch_prop::Propagated;
@@ -173,6 +175,31 @@ fn port_often(alloc: Global, rounds: u32) -> Result<(u32, u64, u32), Fail> {
     Ok((lemmas, reads, ask_often(&mut port, rounds)))
 }
 
+/// Asks for the number of the unit 3 this often, if the port knows any. Tells how often it has one.
+fn number_often<P: Port>(port: &P, rounds: u32) -> u32 {
+    let mut numbered: u32 = 0;
+    for _ in 0..rounds {
+        if port.has_hints() && port.unit_number(Lit::new(3, false)).is_some() {
+            numbered = numbered.wrapping_add(1);
+        }
+    }
+    numbered
+}
+
+/// The analysis over a port whose lines have hints, which the tracer finds, and the numbers of units. Tells how many lemmas came, and
+/// how often the unit had a number.
+fn hints_often(alloc: Global, rounds: u32) -> Result<(u32, u32), Fail> {
+    let problem = row_clauses(alloc)?.with_unit(alloc, Lit::new(3, false))?;
+    let sink = MemSink::new(alloc, 64, &[])?;
+    let clauses = problem.formula.clauses().len() as u64;
+    let Ok(lines) = SinkLines::with_format(alloc, ProofFormat::Lrat, clauses, sink) else {
+        return Err(Fail::from("no memory for the lines"));
+    };
+    let (mut port, start) = open_over(alloc, problem, lines)?;
+    let lemmas = conflict_often(alloc, &mut port, start.as_slice(), rounds)?;
+    Ok((lemmas, number_often(&port, rounds)))
+}
+
 /// The calls of a trail.
 fn trail_often(alloc: Global, rounds: u32) -> Result<u32, Fail> {
     let mut trail = Trail::new(alloc, 2)?;
@@ -188,6 +215,7 @@ fn restarts_often(alloc: Global, rounds: u32) -> Result<u32, Fail> {
 #[test]
 fn calls_come_once(rt: HostRuntime) -> Result<(), Fail> {
     assert_eq!(rt; port_often(rt.alloc(), 1)?, (1, 6, 0));
+    assert_eq!(rt; hints_often(rt.alloc(), 1)?, (1, 1));
     assert_eq!(rt; trail_often(rt.alloc(), 1)?, 1);
     assert_eq!(rt; restarts_often(rt.alloc(), 1)?, 1);
     Ok(())
@@ -196,6 +224,7 @@ fn calls_come_once(rt: HostRuntime) -> Result<(), Fail> {
 #[test]
 fn calls_come_a_thousand_times(rt: HostRuntime) -> Result<(), Fail> {
     assert_eq!(rt; port_often(rt.alloc(), 1000)?, (1000, 6000, 999));
+    assert_eq!(rt; hints_often(rt.alloc(), 1000)?, (1000, 1000));
     assert_eq!(rt; trail_often(rt.alloc(), 1000)?, 1000);
     assert_eq!(rt; restarts_often(rt.alloc(), 1000)?, 1000);
     Ok(())

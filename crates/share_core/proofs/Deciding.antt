@@ -163,5 +163,11 @@ enabled_to c e h p = true≢false (sym ((decides c e).back p) ∙ h)
 pub long_from : (c : List Literal) → is_long c ≡ true → IsLong c
 long_from c h = (long c).yes h
 
+pub long_back : (c : List Literal) → IsLong c → is_long c ≡ true
+long_back c h = (long c).back h
+
 pub unit_from : (l : Literal) (q : Option (List Literal)) → is_unit l q ≡ true → q ≡ Some (l ∷ [])
 unit_from l q h = (lone l q).yes h
+
+pub unit_back : (l : Literal) (q : Option (List Literal)) → q ≡ Some (l ∷ []) → is_unit l q ≡ true
+unit_back l q h = (lone l q).back h

@@ -31,3 +31,4 @@ pub mod Stepping
 pub mod Beginning
 pub mod Rounding
 pub mod RoundFitting
+pub mod RoundPassing

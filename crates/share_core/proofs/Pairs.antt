@@ -1,5 +1,5 @@
 -- Units under their numbers.
-use Rattle.std.proofs.Common.{◌≡◌, ℕ, zero, suc, true, List, [], ◌∷◌, ◌++◌, length, Some, refl, ap, ◌∙◌, subst, inl, inr, ⊎_elim, arith}
+use Rattle.std.proofs.Common.{◌≡◌, ℕ, zero, suc, true, List, [], ◌∷◌, ◌++◌, ◌<◌, length, get_or, Some, refl, ap, ◌∙◌, subst, inl, inr, ⊎_elim, arith}
 use Rattle.std.specs.List.{list_any, zip, slice_get}
 use Rattle.std.specs.Option.{option_map}
 use Rattle.std.proofs.lemmas.List.Folds.{list_any-append}
@@ -13,7 +13,7 @@ use Rattle.rup_model.specs.Journal.{Book, formula_clause, book, spelled, additio
 use Rattle.rup_model.proofs.Lists.{In, In_map, any_In, Contains_In}
 use Rattle.rup_model.proofs.Covers.{same_back, same_chain}
 use Rattle.rup_model.proofs.Numbers.{spelled_same}
-use Rattle.share_core.specs.State.{ArePaired}
+use Rattle.share_core.specs.State.{unit_lits, unit_numbers, ArePaired}
 use Rattle.share_core.specs.Readable.{IsSpelled, IsAdded}
 use Rattle.share_core.proofs.Counting.{none_some, some_same}
 use Rattle.share_core.proofs.Plainly.{book_stands}
@@ -49,6 +49,11 @@ paired_in b [] ns u h i = absurd i
 paired_in b (l ∷ us) [] u h i = absurd i
 paired_in b (l ∷ us) (n ∷ ns) u h (inl e) = subst (λ (q : Literal × ℕ). b.clause q.1 ≡ Some (q.0 ∷ [])) e h.0
 paired_in b (l ∷ us) (n ∷ ns) u h (inr i) = paired_in b us ns u h.1 i
+
+pub paired_at : (b : Book) (us : List (Literal × ℕ)) (i : ℕ) (u : Literal × ℕ) → ArePaired b (unit_lits us) (unit_numbers us) → i < length us → b.clause (get_or us i u).1 ≡ Some ((get_or us i u).0 ∷ [])
+paired_at b [] i u h lt = absurd (omega arith)
+paired_at b (v ∷ us) zero u h lt = h.0
+paired_at b (v ∷ us) (suc i) u h lt = paired_at b us i u h.1 (omega arith)
 
 -- A clause that is a unit was given or added
 

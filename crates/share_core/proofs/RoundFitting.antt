@@ -2,24 +2,25 @@
 use Rattle.std.proofs.Common.{◌≡◌, ◌≢◌, ℕ, zero, suc, ◌+◌, ◌^◌, ◌<◌, ◌≤◌, ◌==◌, nat_eq, Bool, true, false, not, ◌||◌, ◌&&◌, List, [], ◌∷◌, ◌++◌, map, length, get_or, Option, Some, None, refl, sym, ap, ◌∙◌, subst, arith, eq-eqb, ne_eqb, true≢false, append-nil, append_assoc, length-append}
 use Rattle.std.specs.List.{list_any, list_all, AllByRecursion, IsDistinct}
 use Rattle.std.specs.Option.{unwrap_or}
-use Rattle.std.proofs.lemmas.Bool.{and_parts, or_parts}
+use Rattle.std.proofs.lemmas.Bool.{and_parts, and_from, or_parts}
+use Rattle.std.proofs.lemmas.List.Folds.{list_all-append}
 use Rattle.std.proofs.lemmas.List.Sums.{AllPass-from_list_all}
 use mathlib.Core.Logic.{dite}
 use native.Mathlib.Decide.{ℕ_discrete}
 use Rattle.sat_words.specs.Literal.{Literal}
-use Rattle.sat_words.specs.Clause.{distinct_lits, is_empty}
+use Rattle.sat_words.specs.Clause.{distinct_lits, is_empty, two_or_more}
 use Rattle.sat_words.specs.declared.shared.TheConstants.{MAX_ENTRIES}
 use Rattle.rup_model.specs.declared.journal.TheConstants.{RULER_RING}
 use Rattle.rup_model.specs.declared.journal.Round.{Round as RoundStart}
 use Rattle.rup_model.specs.declared.journal.Entry.{Entry}
 use Rattle.rup_model.specs.declared.journal.Entry.TheVariants.{Del, Round}
 use Rattle.rup_model.specs.Basics.{one_if}
-use Rattle.rup_model.specs.Journal.{Book, book, added, ended, is_told, is_ring}
-use Rattle.rup_model.specs.Opening.{Start, IsLong, IsStart}
+use Rattle.rup_model.specs.Journal.{Book, book, added, is_told, is_ring}
+use Rattle.rup_model.specs.Opening.{Start, IsStart}
 use Rattle.rup_model.proofs.Lists.{In, map_In, all_In}
-use Rattle.rup_model.proofs.Units.{long_two, two_same}
+use Rattle.rup_model.proofs.Units.{two_same}
 use Rattle.rup_model.proofs.Additions.{added-append}
-use Rattle.rup_model.proofs.JournalSteps.{not_added, log_dels, log_rounds}
+use Rattle.rup_model.proofs.JournalSteps.{log_dels, log_rounds}
 use Rattle.rup_model.proofs.ProgramOpening.{All_from_In}
 use Rattle.share_core.specs.declared.round_line.RoundLine.{RoundLine}
 use Rattle.share_core.specs.declared.round_line.RoundLine.TheVariants.{Add as RoundAdd, Del as RoundDel}
@@ -29,7 +30,7 @@ use Rattle.share_core.specs.declared.ring.RingState.{RingState}
 use Rattle.share_core.specs.State.{times_at, unit_lits, unit_numbers, ArePaired, maker_at}
 use Rattle.share_core.specs.Guards.{is_long}
 use Rattle.share_core.specs.Machine.{CoreData, state_of, Kept, no_ring}
-use Rattle.share_core.specs.NextRound.{has_lits, is_spare, IsEntryOf, AreEntriesOf, IsInOrder, numbers_of, start_in, round_journal, NoneBuilt, IsDeletion, IsGoing, AreDeleted, may_start, stand_apart, MayBegin}
+use Rattle.share_core.specs.NextRound.{has_lits, is_spare, IsEntryOf, AreEntriesOf, IsInOrder, numbers_of, start_in, round_journal, NoneBuilt, is_deletion, IsDeletion, IsGoing, AreDeleted, may_start, stand_apart, MayBegin}
 use Rattle.share_core.proofs.ClauseLists.{all_last}
 use Rattle.share_core.proofs.Deciding.{long_from}
 use Rattle.share_core.proofs.Rounding.{entries_count}
@@ -56,7 +57,7 @@ once (h ∷ hs) e a =
     (λ q. let z : times_at a hs ≡ 0 = ap (λ (k : ℕ). times_at k hs) (sym q) ∙ absent h.address h.number hs (not_true _ p.0) in let o : one_if (h.address == a) ≡ 1 = ap one_if (eq-eqb h.address a q) in omega arith)
     (λ n. let o : one_if (h.address == a) ≡ 0 = ap one_if (ne_eqb h.address a n) in omega arith)
 
-abbrev numbers : List ClauseAt → List ℕ
+abbrev pub numbers : List ClauseAt → List ℕ
 numbers hs = map (λ (s : Start). s.number) (map (λ (s : ClauseAt). record { number = s.number; lits = s.lits }) hs)
 
 other_number : (a n : ℕ) (hs : List ClauseAt) → list_any (λ (h : ClauseAt). (h.address == a) || (h.number == n)) hs ≡ false → AllByRecursion (λ (m : ℕ). nat_eq n m ≡ false) (numbers hs)
@@ -100,16 +101,16 @@ entries_more F J kept [] (f ∷ E) l e h x = absurd h
 entries_more F J kept (k ∷ L) [] l e h x = absurd h
 entries_more F J kept (k ∷ L) (f ∷ E) l e h x = (h.0, entries_more F (J ++ f ∷ []) kept L E l e h.1 (subst (λ (M : List Entry). IsEntryOf (book F M) kept l e) (sym (append_assoc J (f ∷ []) E)) x))
 
-going_more : (F : List (List Literal)) (K : List Entry) (kept : List ℕ) (c : List Literal) (n : ℕ) → IsLong c → is_spare (book F K) kept c n ≡ true → IsGoing F K → IsGoing F (K ++ Del RULER_RING n ∷ [])
-going_more F K kept c n long spare g = by ((book F K).clause n) refl (and_parts (not (list_any (λ m. m == n) kept)) (has_lits c ((book F K).clause n)) spare).1
+going_more : (F : List (List Literal)) (K : List Entry) (kept : List ℕ) (c : List Literal) (n : ℕ) → two_or_more c ≡ true → is_spare (book F K) kept c n ≡ true → IsGoing F K → IsGoing F (K ++ Del RULER_RING n ∷ [])
+going_more F K kept c n two spare g = by ((book F K).clause n) refl (and_parts (not (list_any (λ m. m == n) kept)) (has_lits c ((book F K).clause n)) spare).1
   where
     by : (o : Option (List Literal)) → (book F K).clause n ≡ o → has_lits c o ≡ true → IsGoing F (K ++ Del RULER_RING n ∷ [])
     by None is h = absurd (true≢false (sym h))
-    by (Some d) is h = (log_dels F K g.0 RULER_RING n d is (two_same c d h (long_two c long)) g.1, ap (list_any is_empty) (added-append K (Del RULER_RING n ∷ []) ∙ append-nil (added K)) ∙ g.1)
+    by (Some d) is h = (log_dels F K g.0 RULER_RING n d is (two_same c d h two) g.1, ap (list_any is_empty) (added-append K (Del RULER_RING n ∷ []) ∙ append-nil (added K)) ∙ g.1)
 
 -- no line yet
 pub deleted_none : (F : List (List Literal)) (J : List Entry) (kept : List ℕ) → AreDeleted F J kept [] J
-deleted_none F J kept = record { entries = []; grows = sym (append-nil J); are = tt; ordered = λ k d lt. absurd (omega arith); going = λ g. g }
+deleted_none F J kept = record { entries = []; grows = sym (append-nil J); are = tt; ordered = λ k d lt. absurd (omega arith); only = refl; going = λ g. g }
 
 -- one line more
 pub deleted_more : (F : List (List Literal)) (J : List Entry) (kept : List ℕ) (L : List RoundLine) (K : List Entry) (l : RoundLine) (n : ℕ) → AreDeleted F J kept L K → IsDeletion (book F K) kept l n → AreDeleted F J kept (L ++ l ∷ []) (K ++ Del RULER_RING n ∷ [])
@@ -121,6 +122,7 @@ deleted_more F J kept L K (RoundDel m c) n h x =
       grows = ap (λ (M : List Entry). M ++ Del RULER_RING n ∷ []) h.grows ∙ append_assoc J h.entries (Del RULER_RING n ∷ []);
       are = entries_more F J kept L h.entries (RoundDel m c) (Del RULER_RING n) h.are (ap (λ (k : ℕ). Del RULER_RING k) (sym x.0), subst (λ (M : List Entry). is_spare (book F M) kept c m ≡ true) h.grows x.3);
       ordered = all_last IsInOrder L (RoundDel m c) h.ordered x.1;
+      only = list_all-append is_deletion L (RoundDel m c ∷ []) ∙ and_from _ _ h.only refl;
       going = λ g. going_more F K kept c n x.2 spare (h.going g);
     }
 
@@ -156,14 +158,14 @@ none_built d k still a = by ((state_of d).cell a) refl
 -- All of it
 
 begins_at : (d : CoreData) (L : List RoundLine) (start : List (ℕ × ℕ)) (units : List (Literal × ℕ)) (limit : ℕ) (K : List Entry) → Kept d → list_all (λ (x : RingState). length x.making == 0) d.rings ≡ true
-    → ended d.formula d.journal ≡ false → limit ≤ 2 ^ 63 → (h : AreDeleted d.formula d.journal (numbers_of start) L K) → let M : List Entry = round_journal d.journal h.entries start (unit_lits units) in length M ≤ MAX_ENTRIES
+    → list_any is_empty (added d.journal) ≡ false → limit ≤ 2 ^ 63 → (h : AreDeleted d.formula d.journal (numbers_of start) L K) → let M : List Entry = round_journal d.journal h.entries start (unit_lits units) in length M ≤ MAX_ENTRIES
     → list_all may_start (map (start_in (book d.formula M)) start) ≡ true → stand_apart (map (start_in (book d.formula M)) start) ≡ true → list_all (is_told d.formula M) (unit_lits units) ≡ true → distinct_lits (unit_lits units) ≡ true
     → ArePaired (book d.formula M) (unit_lits units) (unit_numbers units) → MayBegin (state_of d) L start units limit
 begins_at d L start units limit K k still going few h room fit apart told once_each pairs =
     let M : List Entry = round_journal d.journal h.entries start (unit_lits units) in
     let ss : List ClauseAt = map (start_in (book d.formula M)) start in
     let o = k.sound.opens in
-    let g = h.going (k.sound.log.log, not_added d.formula d.journal going) in
+    let g = h.going (k.sound.log.log, going) in
     let x : RoundStart = record { starts = numbers_of start; units = unit_lits units } in
     let log = log_rounds d.formula K g.0 x g.1 in
     let same : K ++ Round x ∷ [] ≡ M = ap (λ (N : List Entry). N ++ Round x ∷ []) h.grows in
@@ -201,7 +203,7 @@ begins_at d L start units limit K k still going few h room fit apart told once_e
     }
 
 pub may_from : (d : CoreData) (L : List RoundLine) (start : List (ℕ × ℕ)) (units : List (Literal × ℕ)) (limit : ℕ) (K M : List Entry) (ss : List ClauseAt) → Kept d → list_all (λ (x : RingState). length x.making == 0) d.rings ≡ true
-    → ended d.formula d.journal ≡ false → limit ≤ 2 ^ 63 → AreDeleted d.formula d.journal (numbers_of start) L K → M ≡ K ++ Round (record { starts = numbers_of start; units = unit_lits units }) ∷ [] → length M ≤ MAX_ENTRIES
+    → list_any is_empty (added d.journal) ≡ false → limit ≤ 2 ^ 63 → AreDeleted d.formula d.journal (numbers_of start) L K → M ≡ K ++ Round (record { starts = numbers_of start; units = unit_lits units }) ∷ [] → length M ≤ MAX_ENTRIES
     → ss ≡ map (start_in (book d.formula M)) start → list_all may_start ss ≡ true → stand_apart ss ≡ true → list_all (is_told d.formula M) (unit_lits units) ≡ true → distinct_lits (unit_lits units) ≡ true
     → ArePaired (book d.formula M) (unit_lits units) (unit_numbers units) → MayBegin (state_of d) L start units limit
 may_from d L start units limit K M ss k still going few h pushed room starts fit apart told once_each pairs =
@@ -217,7 +219,7 @@ deleted_room F J kept L K h = let a = ap length h.grows in let b = length-append
 
 -- the tests are the conditions
 pub may_fit : (d : CoreData) (L : List RoundLine) (start : List (ℕ × ℕ)) (units : List (Literal × ℕ)) (limit : ℕ) (G : List (List Literal)) (J K M : List Entry) (kept ns : List ℕ) (us : List Literal) (ss : List ClauseAt) → Kept d
-    → list_all (λ (x : RingState). length x.making == 0) d.rings ≡ true → ended d.formula d.journal ≡ false → limit ≤ 2 ^ 63 → length d.journal + length L < MAX_ENTRIES → G ≡ d.formula → J ≡ d.journal → kept ≡ numbers_of start
+    → list_all (λ (x : RingState). length x.making == 0) d.rings ≡ true → list_any is_empty (added d.journal) ≡ false → limit ≤ 2 ^ 63 → length d.journal + length L < MAX_ENTRIES → G ≡ d.formula → J ≡ d.journal → kept ≡ numbers_of start
     → AreDeleted G J kept L K → ns ≡ numbers_of start → us ≡ unit_lits units → M ≡ K ++ Round (record { starts = ns; units = us }) ∷ [] → ss ≡ map (start_in (book G M)) start
     → (list_all may_start ss && (stand_apart ss && (list_all (is_told G M) (unit_lits units) && distinct_lits (unit_lits units)))) ≡ true → ArePaired (book G M) (unit_lits units) (unit_numbers units) → MayBegin (state_of d) L start units limit
 may_fit d L start units limit G J K M kept ns us ss k still going few small Gs Js keeps h nss uss pushed starts all pairs =

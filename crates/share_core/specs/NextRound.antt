@@ -1,9 +1,9 @@
 -- The next round of the rings: what the ruler's lines become, and what the core is then opened with.
 use Rattle.std.specs.Prelude.{◌≡◌, ℕ, Bool, true, false, not, ◌&&◌, ◌||◌, ◌==◌, ⊤, List, [], ◌∷◌, ◌++◌, map, All, Option, Some, None}
-use Rattle.std.specs.List.{list_any}
+use Rattle.std.specs.List.{list_any, list_all}
 use Rattle.std.specs.Option.{unwrap_or}
 use Rattle.sat_words.specs.Literal.{Literal}
-use Rattle.sat_words.specs.Clause.{same_set, clause_of, is_empty}
+use Rattle.sat_words.specs.Clause.{same_set, clause_of, is_empty, two_or_more}
 use Rattle.sat_words.specs.declared.line.Line.{Line}
 use Rattle.sat_words.specs.declared.line.Line.TheVariants.{Add as AddLine, Del as DelLine}
 use Rattle.rup_model.specs.declared.journal.TheConstants.{RULER_RING}
@@ -11,7 +11,6 @@ use Rattle.rup_model.specs.declared.journal.Kind.TheVariants.{Ruler}
 use Rattle.rup_model.specs.declared.journal.Entry.{Entry}
 use Rattle.rup_model.specs.declared.journal.Entry.TheVariants.{Add, Del, Round}
 use Rattle.rup_model.specs.Journal.{Book, book, added, LogSound}
-use Rattle.rup_model.specs.Opening.{IsLong}
 use Rattle.share_core.specs.declared.round_line.RoundLine.{RoundLine}
 use Rattle.share_core.specs.declared.round_line.RoundLine.TheVariants.{Add as RoundAdd, Del as RoundDel}
 use Rattle.share_core.specs.declared.stored.ClauseAt.{ClauseAt}
@@ -104,21 +103,32 @@ pub record IsNextRound (c : State) (lines : List RoundLine) (start : List (ℕ �
 
 -- A round that is begun with deletions alone
 
--- the line deletes a long clause, spelled in order, and its number is that of a spare copy
+-- the line deletes a clause
+abbrev pub is_deletion : RoundLine → Bool
+is_deletion (RoundAdd c hints) = false
+is_deletion (RoundDel n c) = true
+
+-- the line deletes a clause of two literals or more, spelled in order, and its number is that of a spare copy
 abbrev pub IsDeletion : Book → List ℕ → RoundLine → ℕ → Type 0
 IsDeletion b kept (RoundAdd c hints) m = ⊥
-IsDeletion b kept (RoundDel n c) m = (n ≡ m) × (clause_of c ≡ c) × IsLong c × (is_spare b kept c n ≡ true)
+IsDeletion b kept (RoundDel n c) m = (n ≡ m) × (clause_of c ≡ c) × (two_or_more c ≡ true) × (is_spare b kept c n ≡ true)
+
+-- each line is such a deletion after the journal and the lines before it
+abbrev pub AreDeletions : List (List Literal) → List Entry → List ℕ → List RoundLine → Type 0
+AreDeletions F J kept [] = ⊤
+AreDeletions F J kept (l ∷ L) = (n : ℕ) × IsDeletion (book F J) kept l n × AreDeletions F (J ++ Del RULER_RING n ∷ []) kept L
 
 -- the log is sound, and the empty clause was not added
 abbrev pub IsGoing : List (List Literal) → List Entry → Type 0
 IsGoing F J = LogSound F J × (list_any is_empty (added J) ≡ false)
 
--- the lines are in order, and their entries lead from one journal to the other, with which the log stays sound
+-- the lines are deletions in order, and their entries lead from one journal to the other, with which the log stays sound
 pub record AreDeleted (F : List (List Literal)) (J : List Entry) (kept : List ℕ) (L : List RoundLine) (K : List Entry) : Type 0 where
   pub entries : List Entry
   pub grows : K ≡ J ++ entries
   pub are : AreEntriesOf F J kept L entries
   pub ordered : All IsInOrder L
+  pub only : list_all is_deletion L ≡ true
   pub going : IsGoing F J → IsGoing F K
 
 -- it has an address and is long

@@ -1,18 +1,19 @@
 //! Whether a round may begin with given deletions, start clauses and units.
 //! The executable core, which the program never runs: it makes the definitions of specs/ run, for tests.
-ghost use Rattle.std.specs.Prelude.{◌≡◌, ◌≤◌, ◌+◌, ◌==◌, ◌||◌, ◌&&◌, ◌∷◌, [], length, true, IfOk, IfSome};
+ghost use Rattle.std.specs.Prelude.{◌≡◌, ℕ, ◌≤◌, ◌+◌, ◌==◌, ◌||◌, ◌&&◌, ◌∷◌, [], length, true, Some, IfOk, IfSome};
 ghost use Rattle.std.specs.List.{list_any, list_all};
-ghost use Rattle.sat_words.specs.Clause.{clause_of, distinct_lits};
+ghost use Rattle.sat_words.specs.Literal.{same};
+ghost use Rattle.sat_words.specs.Clause.{clause_of, distinct_lits, two_or_more};
 ghost use Rattle.rup_model.specs.Journal.{book, is_told};
 ghost use Rattle.share_core.specs.declared.stored.ClauseAt.{ClauseAt};
 ghost use Rattle.share_core.specs.declared.ring.RingState.{RingState};
 ghost use Rattle.share_core.specs.Machine.{data_of, state_of, Kept};
 ghost use Rattle.share_core.specs.State.{ArePaired, unit_lits, unit_numbers};
-ghost use Rattle.share_core.specs.NextRound.{IsDeletion, AreDeleted, may_start, stand_apart, MayBegin};
+ghost use Rattle.share_core.specs.NextRound.{is_deletion, IsDeletion, AreDeletions, AreDeleted, may_start, stand_apart, MayBegin};
 
 use crate::guards::{are_distinct, is_long, is_unit};
 use crate::items::Items;
-use crate::journal::{is_ended, is_told};
+use crate::journal::{is_told, some_adds_empty};
 use crate::openings::unit_lits;
 use crate::progress::{Origin, Progress};
 use crate::ring::RingState;
@@ -30,14 +31,30 @@ fn is_still(rings: &[RingState]) -> bool
     rings.iter().all(|x| x.making.len() == 0)
 }
 
+fn are_copies(lits: &[Lit], lit: Lit) -> bool
+    ensures { result ≡ list_all (same lit) lits.now }
+{
+    lits.iter().all(|k| lit == *k)
+}
+
+/// Whether it has two literals or more that differ.
+fn has_two(lits: &[Lit]) -> bool
+    ensures { result ≡ two_or_more lits.now }
+{
+    match lits {
+        [] => false,
+        [first, rest @ ..] => !are_copies(rest, *first),
+    }
+}
+
 /// Whether the literals are in the order of `Clause`.
 fn is_in_order(alloc: Global, lits: &Lits) -> Result<bool, AllocError>
-    ensures { IfOk result (λ yes. yes ≡ true → clause_of lits.now ≡ lits.now) }
+    ensures { IfOk result (λ yes. (yes ≡ true → clause_of lits.now ≡ lits.now) × (clause_of lits.now ≡ lits.now → yes ≡ true)) }
 {
     Ok(in_order(alloc, lits.as_slice())? == *lits)
 }
 
-/// The number that the line deletes, if it deletes a long clause in order, and is that of a spare copy.
+/// The number that the line deletes, if it deletes a clause of two literals or more in order, and is that of a spare copy.
 fn deleted_by(
     alloc: Global,
     clauses: &[Clause],
@@ -46,12 +63,13 @@ fn deleted_by(
     line: &RoundLine,
 ) -> Result<Option<u64>, AllocError>
     requires { length journal.now ≤ MAX_ENTRIES }
-    ensures { IfOk result (λ found. IfSome found (λ n. IsDeletion (book clauses.now journal.now) kept.now line.now n)) }
+    ensures found { IfOk result (λ found. IfSome found (λ n. IsDeletion (book clauses.now journal.now) kept.now line.now n)) }
+    ensures each { (n : ℕ) → IsDeletion (book clauses.now journal.now) kept.now line.now n → IfOk result (λ found. found ≡ Some n) }
 {
     match line {
         RoundLine::Add { .. } => Ok(None),
         RoundLine::Del { number, lits } => {
-            if !is_long(lits.as_slice()) || !is_in_order(alloc, lits)? {
+            if !has_two(lits.as_slice()) || !is_in_order(alloc, lits)? {
                 return Ok(None);
             }
             if !is_spare(alloc, clauses, journal, kept, lits.as_slice(), *number)? {
@@ -71,7 +89,8 @@ fn note_deletions(
     journal: &mut Items<Entry>,
 ) -> Result<bool, AllocError>
     requires { length journal.old + length lines.now ≤ MAX_ENTRIES }
-    ensures { IfOk result (λ yes. yes ≡ true → AreDeleted clauses.now journal.old kept.now lines.now journal.new) }
+    ensures noted { IfOk result (λ yes. yes ≡ true → AreDeleted clauses.now journal.old kept.now lines.now journal.new) }
+    ensures each { AreDeletions clauses.now journal.old kept.now lines.now → IfOk result (λ yes. yes ≡ true) }
 {
     for line in lines {
         let Some(number) = deleted_by(alloc, clauses, journal.as_slice(), kept, line)? else {
@@ -128,7 +147,8 @@ fn are_paired(
     units: &[(Lit, u64)],
 ) -> Result<bool, AllocError>
     requires { length journal.now ≤ MAX_ENTRIES }
-    ensures { IfOk result (λ yes. yes ≡ true → ArePaired (book clauses.now journal.now) (unit_lits units.now) (unit_numbers units.now)) }
+    ensures paired { IfOk result (λ yes. yes ≡ true → ArePaired (book clauses.now journal.now) (unit_lits units.now) (unit_numbers units.now)) }
+    ensures each { ArePaired (book clauses.now journal.now) (unit_lits units.now) (unit_numbers units.now) → IfOk result (λ yes. yes ≡ true) }
 {
     for unit in units {
         let clause = clause_under(alloc, clauses, journal, unit.1)?;
@@ -149,7 +169,7 @@ fn all_fit(clauses: &[Clause], journal: &[Entry], starts: &[ClauseAt], units: &[
         && are_distinct(units)
 }
 
-/// Whether the next round may begin with these; no is no answer where a line is an addition.
+/// Whether the next round may begin with these. An addition among the lines makes the answer no.
 pub(crate) fn may_begin(
     alloc: Global,
     origin: &Origin,
@@ -160,12 +180,14 @@ pub(crate) fn may_begin(
     limit: u64,
 ) -> Result<bool, AllocError>
     requires { Kept (data_of origin.now progress.now) }
-    ensures { IfOk result (λ yes. yes ≡ true → MayBegin (state_of (data_of origin.now progress.now)) lines.now start.now units.now limit) }
+    ensures sound { IfOk result (λ yes. yes ≡ true → MayBegin (state_of (data_of origin.now progress.now)) lines.now start.now units.now limit) }
+    ensures deletions { IfOk result (λ yes. yes ≡ true → list_all is_deletion lines.now ≡ true) }
+    ensures each { list_all is_deletion lines.now ≡ true → MayBegin (state_of (data_of origin.now progress.now)) lines.now start.now units.now limit → IfOk result (λ yes. yes ≡ true) }
 {
     let clauses = origin.formula.clauses();
     let mut journal = progress.journal.copied(alloc)?;
     if !is_still(progress.rings.as_slice())
-        || is_ended(clauses, journal.as_slice())
+        || some_adds_empty(journal.as_slice())
         || limit > 1 << 63
         || journal.len() as u64 >= MAX_ENTRIES
         || lines.len() as u64 >= MAX_ENTRIES - journal.len() as u64

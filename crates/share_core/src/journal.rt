@@ -102,7 +102,8 @@ fn adds_unit(entry: &Entry, lit: Lit) -> bool
     }
 }
 
-fn some_adds_empty(journal: &[Entry]) -> bool
+/// Whether the empty clause was added.
+pub(crate) fn some_adds_empty(journal: &[Entry]) -> bool
     ensures { result ≡ list_any (adds is_empty) journal.now }
 {
     journal.iter().any(|entry| adds_empty(entry))

@@ -1,11 +1,12 @@
 //! The core at the beginning of its next round.
 //! The executable core, which the program never runs: it makes the definitions of specs/ run, for tests.
 ghost use Rattle.std.specs.Prelude.{◌≡◌, ◌++◌, map, IfOk, List, ℕ, All, true};
+ghost use Rattle.std.specs.List.{list_all};
 ghost use Rattle.rup_model.specs.declared.journal.Entry.{Entry};
 ghost use Rattle.rup_model.specs.Journal.{lines as lines_of};
 ghost use Rattle.share_core.specs.State.{opened};
 ghost use Rattle.share_core.specs.Machine.{state_of};
-ghost use Rattle.share_core.specs.NextRound.{line_of, NoneBuilt, IsInOrder, IsNextRound, MayBegin, next_opening};
+ghost use Rattle.share_core.specs.NextRound.{line_of, NoneBuilt, IsInOrder, IsNextRound, is_deletion, MayBegin, next_opening};
 
 use crate::fitting::may_begin;
 use crate::openings::{opened, unit_lits};
@@ -18,7 +19,7 @@ use sat_words::{Lit, Lits};
 use std::alloc::{AllocError, Global};
 
 impl Core {
-    /// Whether the next round may begin with these. It may where the answer is no, if a line is an addition.
+    /// Whether the next round may begin with these. An addition among the lines makes the answer no.
     pub fn may_begin(
         &self,
         alloc: Global,
@@ -27,7 +28,9 @@ impl Core {
         units: &[(Lit, u64)],
         limit: u64,
     ) -> Result<bool, AllocError>
-        ensures { IfOk result (λ yes. yes ≡ true → MayBegin (state_of self.now) lines.now start.now units.now limit) }
+        ensures sound { IfOk result (λ yes. yes ≡ true → MayBegin (state_of self.now) lines.now start.now units.now limit) }
+        ensures deletions { IfOk result (λ yes. yes ≡ true → list_all is_deletion lines.now ≡ true) }
+        ensures each { list_all is_deletion lines.now ≡ true → MayBegin (state_of self.now) lines.now start.now units.now limit → IfOk result (λ yes. yes ≡ true) }
     {
         may_begin(
             alloc,

@@ -2,7 +2,7 @@
 ghost use Rattle.std.specs.Prelude.{◌≡◌, ◌≤◌, ◌+◌, ◌<◌, ◌^◌, ℕ, List, true, IfOk, IfErr, IfSome, IfNone, Contains};
 ghost use Rattle.sat_words.specs.Literal.{Literal, IsOn};
 ghost use Rattle.sat_words.specs.Clause.{has};
-ghost use Rattle.simp_base.specs.WorkState.{IsWork, is_unit, has_unit, unit_lits};
+ghost use Rattle.simp_base.specs.WorkState.{IsWork, is_unit, has_unit, unit_lits, AreHeld};
 
 use crate::work::Work;
 use drat_text::{LineOut, LineStop};
@@ -20,7 +20,8 @@ impl<L: LineOut> Work<L> {
 
     /// The units listed, each once, in the order in which they came, each with the number of its clause.
     pub fn units(&self) -> &[(Lit, u64)]
-        ensures { unit_lits result.now ≡ self.now.units }
+        ensures lits { unit_lits result.now ≡ self.now.units }
+        ensures held { AreHeld self.now.clauses result.now }
     {
         self.units.as_slice()
     }

@@ -11,7 +11,7 @@ pub returns-then-not-load-clause-begun : goal.returns-then-not-load-clause-begun
 returns-then-not-load-clause-begun g c =
     let w = c.args.work.now in
     let e : c.load.result ≡ false = grind (arith, c.if-not-load.true) in
-    let o : Oppose w.units = subst Oppose c.units.ensures (subst (WasLoaded (unit_lits c.units.result.now) c.args.values.now c.load.new.values) e c.load.ensures) in
+    let o : Oppose w.units = subst Oppose c.units.ensures.lits (subst (WasLoaded (unit_lits c.units.result.now) c.args.values.now c.load.new.values) e c.load.ensures) in
     record {
       going = c.requires.going;
       unspent = c.requires.unspent;
@@ -27,7 +27,7 @@ propagate-requires-clause-begun g c =
     let w = c.args.work.now in
     let e : c.load.result ≡ true = grind (arith, c.if-not-load.false) in
     let t : AreTrue (unit_lits c.units.result.now) c.args.values.now c.load.new.values = subst (WasLoaded (unit_lits c.units.result.now) c.args.values.now c.load.new.values) e c.load.ensures in
-    progress_begun w c.load.new.values (λ l. ap (λ (us : List Literal). has us l) (sym c.units.ensures) ∙ t.same l)
+    progress_begun w c.load.new.values (λ l. ap (λ (us : List Literal). has us l) (sym c.units.ensures.lits) ∙ t.same l)
 
 pub propagate-requires-clause-each : goal.propagate-requires-clause-each
 propagate-requires-clause-each g c n d i = subst (λ (xs : List ℕ). Contains xs n) (sym c.as_slice.ensures.value) (c.in_ok-numbers.ensures.every n d i)

@@ -11,8 +11,8 @@ numbers_with-requires g c =
     let now = c.loop-next.work in
     let u = c.index-units-next.result in
     let listed = c.units-in-loop-next.result.now in
-    let same : unit_lits listed ≡ now.units = c.units-in-loop-next.ensures in
-    let first : length now.units ≡ length c.units.result.now = ap length (sym c.units.ensures) ∙ many_lits c.units.result.now in
+    let same : unit_lits listed ≡ now.units = c.units-in-loop-next.ensures.lits in
+    let first : length now.units ≡ length c.units.result.now = ap length (sym c.units.ensures.lits) ∙ many_lits c.units.result.now in
     let many : length now.units ≡ length listed = ap length (sym same) ∙ many_lits listed in
     let inside : c.loop-next.next < length now.units = omega (arith, first, c.if-next-units.false) in
     let lit : u.0 ≡ get_or now.units c.loop-next.next u.0 =
@@ -27,8 +27,8 @@ loop-next-preserved g c =
     let new = c.visit.new.work in let e = c.visit.new.values in
     let u = c.index-units-next.result in
     let listed = c.units-in-loop-next.result.now in
-    let same : unit_lits listed ≡ now.units = c.units-in-loop-next.ensures in
-    let first : length now.units ≡ length c.units.result.now = ap length (sym c.units.ensures) ∙ many_lits c.units.result.now in
+    let same : unit_lits listed ≡ now.units = c.units-in-loop-next.ensures.lits in
+    let first : length now.units ≡ length c.units.result.now = ap length (sym c.units.ensures.lits) ∙ many_lits c.units.result.now in
     let many : length now.units ≡ length listed = ap length (sym same) ∙ many_lits listed in
     let inside : c.loop-next.next < length now.units = omega (arith, first, c.if-next-units.false) in
     spread_more old now new a b e c.loop-next.next c.loop-next.invariant inside u.0 c.not.result

@@ -1,7 +1,6 @@
 // A log with hints: what guards ask of them, what units are listed as, and what stands in the journal.
-use crate::events::read;
 use crate::openings::{HINTED, open};
-use crate::tables::walk;
+use crate::tables::walk_through;
 use rup_model::Entry;
 use share_core::Core;
 use std::fmt::Write;
@@ -73,7 +72,7 @@ fn write_additions(text: &mut String, core: &Core) -> Result<(), Fail> {
 #[test]
 fn hints_show_what_is_added(rt: HostRuntime) -> Result<(), Fail> {
     let mut core = open(&rt, HINTED, 2, 1, 10)?;
-    walk(&rt, &mut core, &read(rt.alloc(), HINTS)?)?;
+    walk_through(&rt, &mut core, HINTS)?;
     let mut text = String::new(rt.alloc());
     write_additions(&mut text, &core)?;
     assert_eq!(rt; text.as_str(), JOURNAL);

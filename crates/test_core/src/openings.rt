@@ -61,11 +61,14 @@ struct Opening {
     hinted: bool,
 }
 
+fn clause(alloc: Global, ints: &[&'static str]) -> Result<Clause, Fail> {
+    let lits = lits(alloc, ints)?;
+    Ok(Clause::from_lits(alloc, lits.as_slice())?)
+}
+
 impl Opening {
     fn push_clause(&mut self, alloc: Global, ints: &[&'static str]) -> Result<(), Fail> {
-        let lits = lits(alloc, ints)?;
-        let clause = Clause::from_lits(alloc, lits.as_slice())?;
-        self.formula.push(clause)?;
+        self.formula.push(clause(alloc, ints)?)?;
         Ok(())
     }
 

@@ -1,15 +1,15 @@
 // A ring reduces once it has learned 2000 clauses, not before.
-use crate::events::read;
 use crate::openings::{FOUR, open};
-use crate::tables::walk;
+use crate::tables::walk_through;
 use rup_model::{ClauseNumbers, Kind};
 use sat_words::Lit;
 use share_core::{Core, Event, Step};
 use std::alloc::Global;
+use std::process::Abort;
 use std::test::Fail;
 
 /// From here on every clause follows from what the ring knows.
-pub(crate) const KNOWS_ALL: &str = "\
+const KNOWS_ALL: &str = "\
 0 grant = done
 0 take-turn = done
 0 propagate unit 1 = done
@@ -35,7 +35,7 @@ const AT_2000: &str = "\
 ";
 
 /// The ring learns 1999 units, each with a ticket that it draws before, all at once.
-pub(crate) fn learn_units(alloc: Global, core: &mut Core) -> Result<Step, Fail> {
+fn learn_units(alloc: Global, core: &mut Core) -> Result<Step, Fail> {
     let mut events = Vec::new(alloc);
     for var in 10..2009 {
         events.push(Event::Draw { ring: 0 })?;
@@ -49,11 +49,17 @@ pub(crate) fn learn_units(alloc: Global, core: &mut Core) -> Result<Step, Fail> 
     Ok(core.run(alloc, events.as_slice())?)
 }
 
+/// The ring knows all, and learns 1999 units.
+pub(crate) fn learn_many(rt: &(impl Abort + AllocGlobal), core: &mut Core) -> Result<(), Fail> {
+    walk_through(rt, core, KNOWS_ALL)?;
+    assert_eq!(rt; learn_units(rt.alloc(), core)?, Step::Done);
+    Ok(())
+}
+
 #[test]
 fn reduces_after_two_thousand(rt: HostRuntime) -> Result<(), Fail> {
     let mut core = open(&rt, FOUR, 1, 1, 2001)?;
-    walk(&rt, &mut core, &read(rt.alloc(), KNOWS_ALL)?)?;
-    assert_eq!(rt; learn_units(rt.alloc(), &mut core)?, Step::Done);
-    walk(&rt, &mut core, &read(rt.alloc(), AT_1999)?)?;
-    walk(&rt, &mut core, &read(rt.alloc(), AT_2000)?)
+    learn_many(&rt, &mut core)?;
+    walk_through(&rt, &mut core, AT_1999)?;
+    walk_through(&rt, &mut core, AT_2000)
 }

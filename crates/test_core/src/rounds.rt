@@ -1,12 +1,12 @@
 // Walks over two rounds: what the first leaves to the second, and what it does not.
-use crate::events::{lit, lits, read, words};
+use crate::events::{lit, lits, words};
 use crate::next_over;
 use crate::openings::{FOUR, THREE, open};
-use crate::reductions::{KNOWS_ALL, learn_units};
+use crate::reductions::learn_many;
 use crate::seen::state;
-use crate::tables::walk;
+use crate::tables::walk_through;
 use sat_words::Lit;
-use share_core::{Core, RoundLine, Step};
+use share_core::{Core, RoundLine};
 use std::alloc::Global;
 use std::process::Abort;
 use std::test::Fail;
@@ -102,6 +102,13 @@ impl Beginning {
         }
         Ok(())
     }
+
+    fn add_all(&mut self, alloc: Global, text: &'static str) -> Result<(), Fail> {
+        for line in text.lines() {
+            self.add(alloc, line)?;
+        }
+        Ok(())
+    }
 }
 
 /// The core in its next round.
@@ -117,9 +124,7 @@ fn begin_next(
         start: Vec::new(alloc),
         units: Vec::new(alloc),
     };
-    for line in text.lines() {
-        beginning.add(alloc, line)?;
-    }
+    beginning.add_all(alloc, text)?;
     next_over(
         alloc,
         core,
@@ -133,9 +138,9 @@ fn begin_next(
 #[test]
 fn a_second_round_begins_anew(rt: HostRuntime) -> Result<(), Fail> {
     let mut core = open(&rt, THREE, 2, 1, 4)?;
-    walk(&rt, &mut core, &read(rt.alloc(), FIRST)?)?;
+    walk_through(&rt, &mut core, FIRST)?;
     let mut core = begin_next(&rt, core, NEXT, 3)?;
-    walk(&rt, &mut core, &read(rt.alloc(), SECOND)?)?;
+    walk_through(&rt, &mut core, SECOND)?;
     let text = state(rt.alloc(), &core)?;
     assert_eq!(rt; text.as_str(), LEFT);
     Ok(())
@@ -172,9 +177,8 @@ const AFTER: &str = "\
 #[test]
 fn reductions_count_in_their_round(rt: HostRuntime) -> Result<(), Fail> {
     let mut core = open(&rt, FOUR, 1, 1, 2001)?;
-    walk(&rt, &mut core, &read(rt.alloc(), KNOWS_ALL)?)?;
-    assert_eq!(rt; learn_units(rt.alloc(), &mut core)?, Step::Done);
-    walk(&rt, &mut core, &read(rt.alloc(), LAST)?)?;
+    learn_many(&rt, &mut core)?;
+    walk_through(&rt, &mut core, LAST)?;
     let mut core = begin_next(&rt, core, GO_ON, 2001)?;
-    walk(&rt, &mut core, &read(rt.alloc(), AFTER)?)
+    walk_through(&rt, &mut core, AFTER)
 }

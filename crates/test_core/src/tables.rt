@@ -13,17 +13,23 @@ use std::process::Abort;
 use std::test::Fail;
 
 /// Steps through the events.
-pub(crate) fn walk(
-    rt: &(impl Abort + AllocGlobal),
-    core: &mut Core,
-    row: &Row,
-) -> Result<(), Fail> {
+fn walk(rt: &(impl Abort + AllocGlobal), core: &mut Core, row: &Row) -> Result<(), Fail> {
     let mut line: u32 = 0;
     for (event, wanted) in row.events.iter().zip(row.steps.iter()) {
         line = line.wrapping_add(1);
         assert_eq!(rt; core.step(rt.alloc(), event)?, *wanted, "in line {line}");
     }
     Ok(())
+}
+
+/// Reads the table, and steps through its events.
+pub(crate) fn walk_through(
+    rt: &(impl Abort + AllocGlobal),
+    core: &mut Core,
+    table: &'static str,
+) -> Result<(), Fail> {
+    let row = read(rt.alloc(), table)?;
+    walk(rt, core, &row)
 }
 
 fn check_left(rt: &(impl Abort + AllocGlobal), core: &Core, left: &str) -> Result<(), Fail> {

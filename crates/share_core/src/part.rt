@@ -3,7 +3,7 @@ use rup_model::Entry;
 use sat_words::Lit;
 use std::collections::LinkedList;
 
-/// The formula, the numbers of rings and of slots, the ruler's journal, the start clauses in their cells, the units that
+/// The formula, the numbers of rings and of slots, the journal before, the start clauses in their cells, the units that
 /// are listed from the start with their numbers, the limit of what is learned, and whether additions have hints. No value
 /// of it is made.
 pub struct CoreOpening {
@@ -13,7 +13,7 @@ pub struct CoreOpening {
     pub rings: u32,
     /// How many slots there are for each two rings and class.
     pub depth: u32,
-    /// What the ruler wrote.
+    /// What was written before, by the ruler and in earlier rounds.
     pub journal: LinkedList<Entry>,
     /// The start clauses, with their addresses.
     pub starts: LinkedList<ClauseAt>,

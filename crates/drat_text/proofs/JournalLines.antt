@@ -1,15 +1,16 @@
 -- What an output has of a journal once one line more was put, or failed.
-use Rattle.std.proofs.Common.{◌≡◌, ℕ, List, [], ◌∷◌, ◌++◌, Some, None, refl, sym, ap, subst, ◌∙◌, append_assoc, append-nil}
+use Rattle.std.proofs.Common.{◌≡◌, ℕ, true, List, [], ◌∷◌, ◌++◌, Some, None, refl, sym, ap, subst, ◌∙◌, append_assoc, append-nil}
 use Rattle.std.specs.List.{All, fold}
 use Rattle.std.specs.declared.option.Option.{Option}
 use Rattle.std.specs.Io.KnownBytes.{append_known}
 use Rattle.std.proofs.lemmas.List.Sums.{fold-append}
 use Rattle.sat_words.specs.Literal.{IsOn}
 use Rattle.sat_words.specs.declared.line.Line.{Line}
+use Rattle.sat_words.specs.Formats.{has_hints}
 use Rattle.rup_model.specs.declared.journal.Entry.{Entry}
-use Rattle.rup_model.specs.Log.{Accepted, lits_of}
-use Rattle.rup_model.specs.Journal.{Book, formula_book, book_after, book, lines, lines_after, lines_from}
-use Rattle.rup_model.specs.NumberedLines.{NumberedLine, line_of, numbered_after, numbered_from}
+use Rattle.rup_model.specs.Log.{lits_of}
+use Rattle.rup_model.specs.Journal.{Book, formula_book, book_after, book, lines_after, lines_from, LogSound}
+use Rattle.rup_model.specs.NumberedLines.{NumberedLine, line_of, numbered_after, numbered_from, IsHinted}
 use Rattle.rup_model.proofs.Lines.{numbered_from_next, one_line, no_line}
 use Rattle.io_edge.specs.Causes.{Rose}
 use Rattle.io_edge.proofs.Growth.{append_known-append}
@@ -98,11 +99,16 @@ module _ (o : Origin) (mine : List Entry) (a b : LineState) (x : NumberedLine) (
       }
 
   -- the output failed at the line
-  pub has_text_cut : Accepted o.formula (lines o.formula (o.journal ++ mine) ++ line_of x ∷ []) → (vars : ℕ) → All (IsOn vars) (lits_of (line_of x)) → FailedLine a b x → HasTextCut o mine vars b
-  has_text_cut accepted vars on failed = record {
+  pub has_text_cut : (e : Entry) → numbered_after (book o.formula (o.journal ++ mine)) e ≡ x ∷ [] → LogSound o.formula ((o.journal ++ mine) ++ e ∷ []) → (has_hints o.output.format ≡ true → IsHinted o.formula (o.journal ++ mine) e)
+      → (vars : ℕ) → All (IsOn vars) (lits_of (line_of x)) → FailedLine a b x → HasTextCut o mine vars b
+  has_text_cut e one sound hinted vars on failed = record {
+    next = e;
     line = x;
-    accepted = accepted;
+    one = one;
+    sound = sound;
+    hinted = hinted;
     on = on;
+    format = ap (λ (s : LineState). s.format) failed.state ∙ was.format;
     rose = subst (λ n. Rose n b.faults) was.quiet failed.rose;
     front = record {
       rest = failed.front.rest;

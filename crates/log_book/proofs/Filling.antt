@@ -113,9 +113,13 @@ module _ {S : Type 0} {d : Ghosts S} (written flushed target : S → Option (Lis
     log = record {
       whole = λ q. absurd (true≢false (sym h.spent ∙ q));
       cut = λ _. record {
+        next = h.text.next;
         line = h.text.line;
-        accepted = h.text.accepted;
+        one = h.text.one;
+        sound = h.text.sound;
+        hinted = h.text.hinted;
         on = h.text.on;
+        format = h.text.format;
         rose = h.text.rose;
         front = cut_since (written b.log.lines.sink) (append_known (written sink) []) b.log.lines.waiting (proof_bytes f (numbered_lines F J) ++ spelling f h.text.line) (still_empty (written sink) none) h.text.front;
       };

@@ -8,22 +8,28 @@ use Rattle.std.proofs.lemmas.List.Folds.{list_any-append}
 use Rattle.sat_words.specs.Literal.{Literal, IsOn}
 use Rattle.sat_words.specs.Clause.{is_empty}
 use Rattle.sat_words.specs.declared.line.Line.{Line}
+use Rattle.sat_words.specs.Formats.{has_hints}
 use Rattle.sat_words.specs.declared.shared.TheConstants.{MAX_ENTRIES}
 use Rattle.clause_cell.specs.Packing.{words_for}
 use Rattle.clause_cell.specs.Free.{largest}
 use Rattle.rup_model.specs.declared.journal.Kind.{Kind}
 use Rattle.rup_model.specs.declared.journal.Entry.{Entry}
-use Rattle.rup_model.specs.Log.{Accepted, lits_of}
+use Rattle.rup_model.specs.Log.{lits_of}
 use Rattle.rup_model.specs.Journal.{Book as Numbers, book, book_after, lines, lines_after, added, ended}
-use Rattle.rup_model.specs.NumberedLines.{NumberedLine, line_of, numbered_after}
+use Rattle.rup_model.specs.NumberedLines.{NumberedLine, line_of, numbered_after, IsHinted}
 use Rattle.rup_model.proofs.Additions.{added-append}
 use Rattle.rup_model.proofs.Lines.{one_line}
 use Rattle.rup_model.proofs.Numbers.{book_last, lines_last}
+use Rattle.rup_model.proofs.Sequences.{each_back}
+use Rattle.rup_model.specs.Basics.{EachAfter}
 use Rattle.drat_text.specs.LineState.{LineState, last_after, with_lines}
 use Rattle.drat_text.specs.SinkData.{told_by}
 use Rattle.drat_text.specs.JournalText.{Origin, HasText, HasTextCut}
 use Rattle.drat_text.proofs.JournalLines.{has_text_next, has_text_cut}
 use Rattle.share_core.specs.declared.part.CoreOpening.{CoreOpening}
+use Rattle.share_core.specs.Sound.{JournalSound}
+use Rattle.share_core.specs.State.{later}
+use Rattle.share_core.proofs.Frames.{later_more, later_whole}
 use Rattle.share_core.proofs.Leaving.{left_sound}
 use Rattle.share_core.proofs.Counting.{some_same, none_some}
 use Rattle.share_rule.specs.declared.Layout.{Layout}
@@ -52,6 +58,12 @@ use Rattle.log_book.specs.Turns.{sheet, noted_as, MayNext, MayAdd, CouldWrite, I
 
 pub ended_last : (F : List (List Literal)) (J : List Entry) (e : Entry) → ended F (J ++ e ∷ []) ≡ (ended F J || list_any is_empty (added (e ∷ [])))
 ended_last F J e = ap (λ (G : List (List Literal)). list_any is_empty (F ++ G)) (added-append J (e ∷ [])) ∙ ap (list_any is_empty) (sym (append_assoc F (added J) (added (e ∷ [])))) ∙ list_any-append is_empty (F ++ added J) (added (e ∷ []))
+
+-- if a log has hints, those of its last entry show that it follows
+entry_hinted : (o : CoreOpening) (J : List Entry) (e : Entry) → JournalSound o J → JournalSound o (J ++ e ∷ []) → o.hinted ≡ true → IsHinted o.formula J e
+entry_hinted o J e was now is =
+    subst (λ (K : List Entry). IsHinted o.formula K e) (later_whole o J was)
+    (each_back (IsHinted o.formula) o.journal (later o J) (e ∷ []) (subst (EachAfter (IsHinted o.formula) o.journal) (later_more o J e was) (now.hints is))).0
 
 -- kept lines
 pub kept_grown : (old new : Maybe (List Line)) (all : List Line) (x : Line) → new ≡ with_lines old (x ∷ []) → ((ls : List Line) → old ≡ Some ls → ls ≡ all) → (ls : List Line) → new ≡ Some ls → ls ≡ all ++ x ∷ []
@@ -96,6 +108,11 @@ module _ {S : Type 0} {d : Ghosts S} (written flushed target : S → Maybe (List
     pub state_behind : Noted v.layout (only v).core.ring s.core s.glue t.noted.items (sheet v t)
     state_behind = written_core v s h.writing t.noted.items h.may
 
+    journal_sound : JournalSound v.opening J
+    journal_sound =
+        let n : Noted v.layout (only v).core.ring s.core s.glue t.noted.items (sheet v t) = state_behind in
+        subst (λ (y : CoreOpening × List Entry). JournalSound y.0 y.1) (λ i. ((n.beside.opening ∙ sym s.opening) i, sym n.sheet.journal i)) (left_sound n.core.opening n.core n.left).log
+
     pub long_journal : length v.opening.journal ≤ length J
     long_journal =
         let n : Noted v.layout (only v).core.ring s.core s.glue t.noted.items (sheet v t) = state_behind in
@@ -109,15 +126,17 @@ module _ {S : Type 0} {d : Ghosts S} (written flushed target : S → Maybe (List
       journal_next : (ns : List Note) → ns ≡ t.noted.items ++ n ∷ [] → (written_of v ns).journal ≡ J ++ e ∷ []
       journal_next ns q = ap (λ (ms : List Note). (written_of v ms).journal) q ∙ ap (λ (x : Sheet). x.journal) more.1 ∙ (λ i. J ++ is i ∷ [])
 
-      -- the log with the entry is accepted
-      pub next_accepted : (x : Line) → lines_after (book v.opening.formula J) e ≡ x ∷ [] → Accepted v.opening.formula (lines v.opening.formula J ++ x ∷ [])
-      next_accepted x line =
+      -- the journal with the entry is sound
+      next_sound : JournalSound v.opening (J ++ e ∷ [])
+      next_sound =
           let m : Noted v.layout (only v).core.ring s.core s.glue (t.noted.items ++ n ∷ []) (written_of v (t.noted.items ++ n ∷ [])) = written_core v s h.writing (t.noted.items ++ n ∷ []) more.0 in
-          let log = (left_sound m.core.opening m.core m.left).log.log in
           let J' : m.core.journal ≡ J ++ e ∷ [] = sym m.sheet.journal ∙ journal_next (t.noted.items ++ n ∷ []) refl in
           let o : m.core.opening ≡ v.opening = m.beside.opening ∙ sym s.opening in
-          let all : lines v.opening.formula (J ++ e ∷ []) ≡ lines v.opening.formula J ++ x ∷ [] = lines_last v.opening.formula J e ∙ ap (λ (ls : List Line). lines v.opening.formula J ++ ls) line in
-          subst (λ (y : List (List Literal) × List Line). Accepted y.0 y.1) (λ i. ((o i).formula, ((λ j. lines (o j).formula (J' j)) ∙ all) i)) log.accepted
+          subst (λ (y : CoreOpening × List Entry). JournalSound y.0 y.1) (λ i. (o i, J' i)) (left_sound m.core.opening m.core m.left).log
+
+      -- if the format has hints, those of the entry show that it follows
+      next_hinted : has_hints v.origin.format ≡ true → IsHinted v.opening.formula J e
+      next_hinted q = entry_hinted v.opening J e journal_sound next_sound (h.stands.hinted ∙ q)
 
       pub note_turn : (t' : Turn S d) → t'.noted.items ≡ t.noted.items ++ n ∷ [] → t'.refused ≡ t.refused → t'.book.log.lines.spent ≡ false
           → t'.book.holes ≡ (room_after (room v.layout v.opening J) e).holes → t'.book.entries ≡ t.book.entries + 1 → suc t'.book.log.lines.last ≡ (book_after (book v.opening.formula J) e).next
@@ -150,6 +169,7 @@ module _ {S : Type 0} {d : Ghosts S} (written flushed target : S → Maybe (List
               ended = end;
               holes = λ _. holes ∙ ap (λ (m : Room). m.holes) (sym (room_more v.layout o J (e ∷ []) long_journal));
               faulty = whole;
+              hinted = h.stands.hinted;
             });
           }
         where
@@ -192,13 +212,12 @@ module _ {S : Type 0} {d : Ghosts S} (written flushed target : S → Maybe (List
       failed_turn t' x one on noted_is refused_is b b_lines b_entries b_ended b_kept c failed log_are entries_are ended_are =
           let o : CoreOpening = v.opening in
           let state = failed.failed.state in
-          let line : lines_after (book v.opening.formula J) e ≡ line_of x ∷ [] = one_line (book v.opening.formula J) e x one in
           let J' : (sheet v t').journal ≡ J = ap (λ (ns : List Note). (written_of v ns).journal) noted_is in
           let lines_are : t'.book.log.lines ≡ c.log.lines = ap (λ k. k.lines) log_are in
           let kept_are : t'.book.log.kept.lines ≡ t.book.log.kept.lines = ap (λ k. k.kept.lines) log_are ∙ failed.kept ∙ b_kept in
           let spent : t'.book.log.lines.spent ≡ true = ap (λ l. l.spent) lines_are ∙ ap (λ (l : LineState). l.spent) state in
           let was : HasText O J (told_by written flushed target faults b.log.lines) = subst (λ l. HasText O J (told_by written flushed target faults l)) (sym b_lines) (h.stands.log.sink.whole could.1) in
-          let cut = has_text_cut O J (told_by written flushed target faults b.log.lines) (told_by written flushed target faults c.log.lines) x was (next_accepted (line_of x) line) v.layout.vars on failed.failed in (
+          let cut = has_text_cut O J (told_by written flushed target faults b.log.lines) (told_by written flushed target faults c.log.lines) x was e one next_sound.log next_hinted v.layout.vars on failed.failed in (
             record {
               writing = h.writing;
               may = subst (λ (ns : List Note). MayWrite v ns) (sym noted_is) h.may;
@@ -220,6 +239,7 @@ module _ {S : Type 0} {d : Ghosts S} (written flushed target : S → Maybe (List
                 ended = ended_are ∙ failed.ended ∙ b_ended ∙ is_ended;
                 holes = λ q. absurd (true≢false (sym spent ∙ q));
                 faulty = refl;
+                hinted = h.stands.hinted;
               });
             },
             spent,
@@ -252,6 +272,7 @@ module _ {S : Type 0} {d : Ghosts S} (written flushed target : S → Maybe (List
             ended = alike.ended ∙ h.stands.ended;
             holes = λ q. alike.holes ∙ h.stands.holes (sym spent ∙ q);
             faulty = spent;
+            hinted = h.stands.hinted;
           });
         }
 

@@ -134,14 +134,14 @@ module _ {S : Type 0} {d : Ghosts S} (written flushed target : S → Option (Lis
     pub holes : new.holes ≡ old.holes
 
   -- its sink has failed since this origin exactly if a line failed; what it has, and after it what waits, is the bytes of
-  -- the journal's lines, and where one failed a front of it; it was not flushed, and is for the same path
+  -- the journal's lines, and if a line failed a front of these with that line's; it was not flushed, and is for the same path
   pub record IsLogOf (b : Book S d) (w : BookOrigin) (l : Layout) (F : List (List Literal)) (J : List Entry) : Type 0 where
     pub whole : b.log.lines.spent ≡ false → HasText (begun F (began w F)) J (told_by written flushed target faults b.log.lines)
     pub cut : b.log.lines.spent ≡ true → HasTextCut (begun F (began w F)) J l.vars (told_by written flushed target faults b.log.lines)
     pub target_is : target b.log.lines.sink ≡ w.target
     pub flushed_is : flushed b.log.lines.sink ≡ w.flushed
 
-  -- since it had this format and this sink, in which nothing was written, the book failed at a line after those of the journal
+  -- this is the book's log since it had this format and this sink, in which nothing was written
   pub record IsCutLog (f : ProofFormat) (sink : S) (b : Book S d) (l : Layout) (F : List (List Literal)) (J : List Entry) : Type 0 where
     pub origin : BookOrigin
     pub format_is : origin.format ≡ f

@@ -9,6 +9,7 @@ use Rattle.io_edge.specs.Causes.{Rose}
 use Rattle.io_edge.proofs.Growth.{append_known-append}
 use Rattle.sat_words.specs.Literal.{Literal}
 use Rattle.sat_words.specs.declared.line.Line.{Line}
+use Rattle.sat_words.specs.Formats.{has_hints}
 use Rattle.sat_words.specs.declared.line.ProofFormat.{ProofFormat}
 use Rattle.rup_model.specs.declared.journal.Entry.{Entry}
 use Rattle.rup_model.specs.Journal.{Book, formula_book, book_after, book, lines, lines_from}
@@ -101,9 +102,13 @@ module _ (F : List (List Literal)) (before old new : LineState) (J mine : List E
         let f : ProofFormat = before.format in
         let more : List ℕ = spelling f h.line in
         record {
+          next = h.next;
           line = h.line;
-          accepted = h.accepted;
+          one = h.one;
+          sound = h.sound;
+          hinted = λ q. h.hinted (ap has_hints was.format ∙ q);
           on = h.on;
+          format = h.format ∙ was.format;
           rose = subst (λ (n : ℕ). Rose n new.faults) was.quiet h.rose;
           front = record {
             rest = h.front.rest;

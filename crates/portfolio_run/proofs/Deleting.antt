@@ -379,7 +379,7 @@ module _ (F : List (List Literal)) (vars : ℕ) (us : List (Literal × ℕ)) (st
             (one_del o mine w stands_front r.number r.clause still (long_all r r_in) refl)
             (valid_del o mine w stands_front r.number r.clause still (long_all r r_in) refl)
             (fit_del o mine w stands_front r.number r.clause still (long_all r r_in) refl)
-            refl new middle_unspent on_r failed).lines
+            refl (λ q. tt) new middle_unspent on_r failed).lines
         lines_not_put new Full full = subst (HasLines o mine vars) (sym full.state) lines_front
         lines_not_put new Memory same = subst (HasLines o mine vars) (sym same) lines_front
 

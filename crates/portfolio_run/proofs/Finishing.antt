@@ -1,26 +1,24 @@
 -- An answer once its proof is finished.
 use Rattle.io_edge.specs.declared.edge.Sink.{Ghosts}
-use Rattle.std.proofs.Common.{◌≡◌, ◌∙◌, ◌≤◌, ℕ, Bool, true, false, List, [], ◌∷◌, ◌++◌, Some, None, refl, sym, ap, subst, inl, inr, arith, append-nil, true≢false}
+use Rattle.std.proofs.Common.{◌≡◌, ◌∙◌, ◌≤◌, ℕ, Bool, true, false, List, ◌++◌, Some, None, refl, sym, ap, subst, inl, inr, arith, true≢false}
 use Rattle.std.specs.Prelude.{IfSome, is_some, Result, Ok, Err, OnOk, OnErr}
 use Rattle.std.specs.declared.option.Option.{Option}
 use Rattle.std.specs.Io.KnownBytes.{append_known}
 use Rattle.std.proofs.lemmas.Bool.{cases_Bool}
-use Rattle.std.proofs.lemmas.List.Elements.{All-append}
 use Rattle.io_edge.specs.Bytes.{IsFront}
 use Rattle.io_edge.specs.Causes.{Rose, HasCause}
 use Rattle.sat_words.specs.Literal.{Literal}
 use Rattle.sat_words.specs.FormulaData.{FormulaData}
+use Rattle.sat_words.specs.Formats.{has_hints}
 use Rattle.sat_words.specs.declared.line.Line.{Line}
-use Rattle.rup_model.specs.Log.{lits_of, Accepted}
-use Rattle.rup_model.specs.Journal.{lines}
+use Rattle.rup_model.specs.Log.{lits_of}
+use Rattle.rup_model.specs.Journal.{lines, LogSound}
 use Rattle.rup_model.specs.NumberedLines.{line_of, numbered_lines}
 use Rattle.rup_model.specs.declared.journal.Entry.{Entry}
 use Rattle.drat_text.specs.LineState.{LineState}
 use Rattle.sat_words.specs.declared.line.ProofFormat.{ProofFormat}
-use Rattle.drat_text.specs.Text.{IsSpelled, CanBeSpelled}
 use Rattle.drat_text.specs.Spelling.{spelling, proof_bytes}
 use Rattle.drat_text.specs.SinkData.{told_by}
-use Rattle.drat_text.proofs.JournalLines.{bytes_last}
 use Rattle.log_book.specs.declared.book.Book.{Book}
 use Rattle.log_book.specs.Books.{no_byte}
 use Rattle.log_book.specs.Ended.{HasEnded}
@@ -32,8 +30,8 @@ use Rattle.portfolio_run.specs.declared.plan.Plan.{Plan}
 use Rattle.portfolio_run.specs.Journaled.{IsCutShort}
 use Rattle.portfolio_run.specs.Reached.{HasReached}
 use Rattle.portfolio_run.specs.Solved.{is_verdict, unfinished, IsSure, IsFinished, IsSolved}
-use Rattle.portfolio_run.proofs.Cuts.{cut_short, cut_whole, lines_with, front_of_front, front_of_same, front_told}
-use Rattle.portfolio_run.proofs.Spelling.{cons_All, spell_all}
+use Rattle.portfolio_run.proofs.Cuts.{cut_short, cut_whole, front_of_front, front_of_same, front_told}
+use Rattle.portfolio_run.proofs.Spelling.{spell_all}
 
 -- if there was no byte, the text is all there is
 holds_since : (told : Bool) (t : List ℕ) → HoldsText (append_known (no_byte told) t) t
@@ -86,6 +84,9 @@ module _ {S : Type 0} {d : Ghosts S} (written flushed target : S → Option (Lis
       subst (λ (w : Option (List ℕ)). HoldsText w (proof_bytes o.format (numbered_lines F J))) (sym (h.records.log.whole q).bytes) (holds_since o.tells (proof_bytes o.format (numbered_lines F J))) in
       subst (λ (f : ProofFormat). HoldsText out.written (proof_bytes f (numbered_lines F J))) h.records.format_is told
 
+  sound : LogSound F J
+  sound = record { fits = h.reached.stands.fits; accepted = h.reached.stands.accepted; empty_last = h.reached.stands.last }
+
   short_cut : (now : Option (List ℕ)) → IsFront now out.written → b.log.lines.spent ≡ true → IsCutShort plan.format F J now
   short_cut now front q =
       let c = h.records.log.cut q in
@@ -93,16 +94,14 @@ module _ {S : Type 0} {d : Ghosts S} (written flushed target : S → Option (Lis
       let more : List ℕ = proof_bytes o.format (numbered_lines F J) ++ spelling o.format c.line in
       let all = append_known (no_byte o.tells) more in
       subst (λ (f : ProofFormat). IsCutShort f F J now) h.records.format_is
-      (cut_short o.format F J (numbered_lines F J) [] c.line (sym (append-nil (numbered_lines F J))) (subst (Accepted F) (lines_with F J c.line) c.accepted)
-      (subst CanBeSpelled (lines_with F J c.line) (All-append IsSpelled (lines F J) (line_of c.line ∷ []) h.reached.stands.spelled
-      (cons_All IsSpelled (line_of c.line) [] (spell_all h.records.layout.vars h.records.few (lits_of (line_of c.line)) c.on) (λ k d lt. absurd (omega arith)))))
-      all now (subst (HoldsText all) (sym (bytes_last o.format (numbered_lines F J) c.line)) (holds_since o.tells more))
-      (front_of_front now out.written all front c.front))
+      (cut_short o.format F J now sound (λ k. h.reached.stands.hinted (ap has_hints (sym h.records.format_is) ∙ k)) h.reached.stands.spelled c.next c.line c.one c.sound c.hinted
+      (spell_all h.records.layout.vars h.records.few (lits_of (line_of c.line)) c.on)
+      (front_told now all more (holds_since o.tells more) (front_of_front now out.written all front c.front)))
 
   short : (now : Option (List ℕ)) → IsFront now out.written → IsCutShort plan.format F J now
   short now f = elim (cases_Bool b.log.lines.spent) as (λ _. IsCutShort plan.format F J now) [
     | inl q ↦ short_cut now f q
-    | inr q ↦ cut_whole plan.format F J out.written now h.reached.stands.accepted h.reached.stands.spelled (whole q) f
+    | inr q ↦ cut_whole plan.format F J now sound h.reached.stands.hinted h.reached.stands.spelled (front_told now out.written all_bytes (whole q) f)
   ]
 
   -- a sink that failed now, or before, has failed since

@@ -311,7 +311,8 @@ starved plan formula tally before faults flushed written few on rings none empty
         closed = closed;
         whole = λ _. holds;
         front = λ _. front_told written written bytes holds (front_of_same written);
-        short = cut_whole plan.format formula.clauses was.journal written written h.stands.accepted h.stands.spelled holds (front_of_same written);
+        short = cut_whole plan.format formula.clauses was.journal written (record { fits = h.stands.fits; accepted = h.stands.accepted; empty_last = h.stands.last }) h.stands.hinted h.stands.spelled
+            (front_told written written bytes holds (front_of_same written));
       };
       lines_are = record { are = tt; asked_for = λ e. absurd (true≢false (sym e)); quiet = λ e. absurd (true≢false (sym e)); there = λ asked other sure. absurd (other refl) };
     }

@@ -22,6 +22,7 @@ use Rattle.rup_model.proofs.Sums.{at_put}
 use Rattle.ring_port.proofs.Holdings.{All_In}
 use Rattle.ring_port.proofs.Dropping.{some_In}
 use Rattle.drat_text.specs.Text.{CanBeSpelled}
+use Rattle.portfolio_run.proofs.Interleaving.{cons_All}
 
 -- each clause that is alive has its literals on the variables
 abbrev pub AreOn : ℕ → Book → Type 0
@@ -78,10 +79,6 @@ deleted_on vars b r n on = by (r == RULER_RING) (b.clause n) (on n)
     by true (Some c) h = in_order_on vars c h
     by false None h = λ k d lt. absurd (omega arith)
     by false (Some c) h = h
-
-pub cons_All : {X : Type 0} (P : X → Type 0) (x : X) (xs : List X) → P x → All P xs → All P (x ∷ xs)
-cons_All P x xs p ps zero d lt = p
-cons_All P x xs p ps (suc k) d lt = ps k d (omega arith)
 
 pub spell_all : (vars : ℕ) → vars ≤ 2 ^ 30 → (c : List Literal) → All (IsOn vars) c → All (IsOn (2 ^ 30)) c
 spell_all vars few c on k d lt = let h = on k d lt in let high = h.high in record { low = h.low; high = omega arith }

@@ -1,23 +1,25 @@
 -- The journal of a run, and what the writer of its proof holds.
-use Rattle.std.specs.Prelude.{◌≡◌, ◌⊎◌, ℕ, Bool, List, [], ◌∷◌, ◌++◌, map, take, All, IfSome, true, false, ⊤}
+use Rattle.std.specs.Prelude.{◌≡◌, ◌⊎◌, ℕ, Bool, List, [], ◌++◌, map, All, IfSome, true, false, ⊤}
 use Rattle.std.specs.List.{list_any}
+use Rattle.std.specs.Option.{option_to_list}
 use Rattle.std.specs.declared.option.Option.{Option}
 use Rattle.sat_words.specs.Literal.{Literal}
 use Rattle.sat_words.specs.Clause.{has, is_empty}
+use Rattle.sat_words.specs.Formats.{has_hints}
 use Rattle.sat_words.specs.declared.line.ProofFormat.{ProofFormat}
 use Rattle.rup_model.specs.declared.journal.Round.{Round as RoundStart}
 use Rattle.rup_model.specs.declared.journal.Entry.{Entry}
 use Rattle.rup_model.specs.declared.journal.Entry.TheVariants.{Add, Del, Reduce, Round}
 use Rattle.rup_model.specs.Basics.{EachAfter}
 use Rattle.rup_model.specs.Log.{Accepted}
-use Rattle.rup_model.specs.Journal.{added, lines, round_of, Fits, EmptyLast}
-use Rattle.rup_model.specs.NumberedLines.{NumberedLine, AreHinted, line_of, numbered_lines}
+use Rattle.rup_model.specs.Journal.{added, lines, round_of, Fits, EmptyLast, LogSound}
+use Rattle.rup_model.specs.NumberedLines.{AreHinted, numbered_lines}
 use Rattle.rup_model.specs.Opening.{is_rulers, program_opening}
 use Rattle.rup_model.specs.Windows.{begins_round, IsNewInRound, IsSpacedInRound}
 use Rattle.core_rounds.specs.InRounds.{IsOfRounds}
 use Rattle.drat_text.specs.Text.{CanBeSpelled}
-use Rattle.drat_text.specs.Spelling.{spelling, proof_bytes}
-use Rattle.log_book.specs.Kept.{HoldsText}
+use Rattle.drat_text.specs.Spelling.{proof_bytes}
+use Rattle.log_book.specs.Kept.{IsFrontTold}
 use Rattle.ring_run.specs.Ended.{IsOfKind}
 
 -- an entry of a ring: it learns a clause of a literal or more, adds the line of a unit, or derives the empty clause or a clause
@@ -62,13 +64,12 @@ pub record IsJournal (rings : ℕ) (with_hints : Bool) (clauses : List (List Lit
 abbrev pub IsUnrefuted : List Entry → Type 0
 IsUnrefuted journal = list_any is_empty (added journal) ≡ false
 
--- the bytes of some lines of the journal in this format, and a front of one line's more; all of the lines are accepted
+-- if bytes are known, they are a front of those of the journal's lines in this format, or of these and the line of one entry more that
+-- may come next: each line is valid where it stands and can be spelled, the numbers fit, nothing follows the empty clause, and if the
+-- format has hints, those of each addition show that it follows
 pub record IsCutShort (format : ProofFormat) (clauses : List (List Literal)) (journal : List Entry) (written : Option (List ℕ)) : Type 0 where
-  pub front : List NumberedLine
-  pub rest : List NumberedLine
-  pub front_of : numbered_lines clauses journal ≡ front ++ rest
-  pub line : NumberedLine
-  pub cut : ℕ
-  pub accepted : Accepted clauses (map line_of (front ++ line ∷ []))
-  pub spelled : CanBeSpelled (map line_of (front ++ line ∷ []))
-  pub bytes : HoldsText written (proof_bytes format front ++ take cut (spelling format line))
+  pub next : Option Entry
+  pub sound : LogSound clauses (journal ++ option_to_list next)
+  pub hinted : has_hints format ≡ true → AreHinted clauses (journal ++ option_to_list next)
+  pub spelled : CanBeSpelled (lines clauses (journal ++ option_to_list next))
+  pub bytes : IsFrontTold written (proof_bytes format (numbered_lines clauses (journal ++ option_to_list next)))

@@ -118,8 +118,9 @@ abbrev pub IsSure : (before poured : ℕ) → Answer → Type 0
 IsSure before poured answer = (is_verdict answer ≡ true) ⊎ (Rose before poured → ⊥)
 
 -- what the sink has of the proof, when it had failed this often before, by the search's end and now: what was left of the lines was
--- written and the sink then flushed, when it had failed `poured` times. It has the bytes of the journal's lines in this format; if a
--- line had failed a front of that, or of it and one line more.
+-- written and the sink then flushed, when it had failed `poured` times. If its bytes are known, they are those of the journal's lines in
+-- this format at a verdict, and if nothing had failed before the flush; a front of those, if nothing had failed in the search; and in
+-- each case a front of those, or of those and one line more.
 pub record IsFinished (format : ProofFormat) (clauses : List (List Literal)) (journal : List Entry) (answer : Answer) (before searched faults : ℕ) (flushed written : Option (List ℕ)) : Type 0 where
   pub poured : ℕ
   pub grown : (searched ≤ poured) × (poured ≤ faults)

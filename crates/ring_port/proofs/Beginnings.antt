@@ -172,6 +172,7 @@ module _ (F : List (List Literal)) (vars : ℕ) (ss : List (ℕ × List Literal)
         output = record {
           entries = h.lines.entries ∙ ap (λ K. length (lines F K)) (sym alone);
           last = ap (λ K. (book F K).next) alone ∙ h.lines.last;
+          hinted = refl;
           usable = sym (ap not unspent);
           caused = tt;
           whole = λ q. has_text_begun o;

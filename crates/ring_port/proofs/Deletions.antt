@@ -11,7 +11,6 @@ use Rattle.sat_words.specs.Clause.{same_set, is_empty}
 use Rattle.sat_words.specs.declared.line.Line.TheVariants.{Del as DelLine}
 use Rattle.rup_model.specs.declared.journal.Entry.{Entry}
 use Rattle.rup_model.specs.declared.journal.Entry.TheVariants.{Del}
-use Rattle.rup_model.specs.Log.{Accepted}
 use Rattle.rup_model.specs.Opening.{IsLong}
 use Rattle.rup_model.specs.Journal.{spelled_by, Book, book_after, book, lines, lines_after, added, ring_of, LogSound}
 use Rattle.rup_model.proofs.Lists.{In_Contains, Contains_In, In_get_or}
@@ -51,20 +50,17 @@ module _ (o : Origin) (s : PortState) (h : StandsOver o s) (ring : s.ring ≡ 0)
   alive : (book F J).clause w.number ≡ Some w.lits
   alive = waits 0 w (omega arith)
 
-  sound_last : LogSound F (J ++ deletes ∷ [])
-  sound_last = log_dels F J h.sound s.ring w.number w.lits alive (long_two w.lits long) (not_added F J (sym h.ended ∙ going))
+  pub sound_without : LogSound F (J ++ deletes ∷ [])
+  sound_without = log_dels F J h.sound s.ring w.number w.lits alive (long_two w.lits long) (not_added F J (sym h.ended ∙ going))
 
   line_is : lines_after (book F J) deletes ≡ DelLine w.lits ∷ []
   line_is = λ i. DelLine (spelled_by (ring i) (unwrap_or (alive i) [])) ∷ []
 
-  numbered_is : (last : ℕ) → (book F J).next - 1 ≡ last → numbered_after (book F J) deletes ≡ Deleted last w.number w.lits ∷ []
+  pub numbered_is : (last : ℕ) → (book F J).next - 1 ≡ last → numbered_after (book F J) deletes ≡ Deleted last w.number w.lits ∷ []
   numbered_is last e = λ i. Deleted (e i) w.number (spelled_by (ring i) (unwrap_or (alive i) [])) ∷ []
 
   lines_more : lines F (J ++ deletes ∷ []) ≡ lines F J ++ DelLine w.lits ∷ []
   lines_more = lines_last F J deletes ∙ ap (λ L. lines F J ++ L) line_is
-
-  pub accepted_deletion : Accepted F (lines F J ++ DelLine w.lits ∷ [])
-  accepted_deletion = subst (Accepted F) lines_more sound_last.accepted
 
   book_is : book F shrunk ≡ book_after (book F J) deletes
   book_is = ap (book F) shrunk_is ∙ book_last F J deletes
@@ -113,6 +109,7 @@ module _ (o : Origin) (s : PortState) (h : StandsOver o s) (ring : s.ring ≡ 0)
           record {
             entries = (let e = was.entries in let n = ap (λ L. length L) more in let m = length-append (lines F J) (DelLine w.lits ∷ []) in omega arith);
             last = ap (λ (k : Book). k.next) book_is ∙ was.last;
+            hinted = was.hinted;
             usable = was.usable;
             caused = caused_later s after_deletion a put_output s.refused going did.room refl was.caused;
             whole = λ q. has_text_next o s.mine a put_output (deleted_line a w.number w.lits) (was.whole q) deletes (numbered_is a.last (let l = was.last in omega arith)) (record { room = did.room; state = refl });
@@ -125,7 +122,7 @@ module _ (o : Origin) (s : PortState) (h : StandsOver o s) (ring : s.ring ≡ 0)
       stands_deleted = record {
         opens = h.opens;
         given = h.given;
-        sound = subst (LogSound F) (sym shrunk_is) sound_last;
+        sound = subst (LogSound F) (sym shrunk_is) sound_without;
         of_ring = All-append (λ e. ring_of e ≡ s.ring) s.mine (deletes ∷ []) h.of_ring (one_All (λ e. ring_of e ≡ s.ring) deletes refl);
         on = subst (λ G. All (All (IsOn s.vars)) G) (sym own_added) h.on;
         ended = h.ended ∙ ap (λ G. list_any is_empty (F ++ G)) (sym added_same);
@@ -151,6 +148,7 @@ module _ (o : Origin) (s : PortState) (h : StandsOver o s) (H W : List Holding) 
   has_lines_still a was = record {
     entries = was.entries;
     last = was.last;
+    hinted = was.hinted;
     usable = was.usable;
     caused = caused_same s after_drop a s.refused refl was.caused;
     whole = was.whole;

@@ -16,7 +16,7 @@ use Rattle.rup_model.specs.declared.journal.Entry.{Entry}
 use Rattle.rup_model.specs.declared.journal.Entry.TheVariants.{Add}
 use Rattle.rup_model.specs.Basics.{put}
 use Rattle.rup_model.specs.Rup.{rup}
-use Rattle.rup_model.specs.Log.{Accepted, alive, lits_of}
+use Rattle.rup_model.specs.Log.{alive, lits_of}
 use Rattle.rup_model.specs.Journal.{Book, spelled, book_after, book, lines, added, ended, is_told, ring_of, LogSound}
 use Rattle.rup_model.proofs.Lists.{In, In_append, map_In, In_Contains, Contains_In}
 use Rattle.rup_model.proofs.Sums.{put_here, put_else}
@@ -27,9 +27,10 @@ use Rattle.rup_model.proofs.Additions.{added-append, told_more}
 use Rattle.rup_model.proofs.Told.{told_alive}
 use Rattle.rup_model.proofs.Sequences.{each_last}
 use Rattle.drat_text.specs.LineState.{LineState}
-use Rattle.rup_model.specs.NumberedLines.{NumberedLine, Added, line_of, IsHinted}
+use Rattle.rup_model.specs.NumberedLines.{NumberedLine, Added, line_of, numbered_after, IsHinted}
 use Rattle.drat_text.specs.LineOut.{PutLine, FailedLine, with_line, added_line}
 use Rattle.drat_text.proofs.JournalLines.{has_text_next, has_text_cut}
+use Rattle.sat_words.specs.Formats.{has_hints}
 use Rattle.sat_words.specs.declared.shared.Stop.{Stop}
 use Rattle.sat_words.specs.declared.shared.TheConstants.{MAX_ENTRIES}
 use Rattle.ring_port.specs.declared.stops.PortStop.{PortStop}
@@ -91,7 +92,7 @@ module _ (o : Origin) (s : PortState) (h : StandsOver o s) (ring : s.ring ≡ 0)
     rup_alive_lits : rup (alive F (lines F J)) lits ≡ true
     rup_alive_lits = rup_alive_sets (book F J) (alive F (lines F J)) (known s) lits (journal_matches F J h.sound.fits) alive_known follows
 
-    sound_last : LogSound F (J ++ Add x ∷ [])
+    pub sound_last : LogSound F (J ++ Add x ∷ [])
     sound_last = log_adds F J h.sound x next rup_alive_lits (not_added F J (sym h.ended ∙ going))
 
     pub sound_next : LogSound F grown
@@ -99,9 +100,6 @@ module _ (o : Origin) (s : PortState) (h : StandsOver o s) (ring : s.ring ≡ 0)
 
     pub lines_next : lines F grown ≡ lines F J ++ AddLine lits ∷ []
     lines_next = ap (lines F) grown_is ∙ lines_last F J (Add x)
-
-    pub accepted_next : Accepted F (lines F J ++ AddLine lits ∷ [])
-    accepted_next = subst (Accepted F) lines_next sound_next.accepted
 
   pub book_next : book F grown ≡ book_after (book F J) (Add x)
   book_next = ap (book F) grown_is ∙ book_last F J (Add x)
@@ -223,6 +221,7 @@ module _ (o : Origin) (s : PortState) (h : StandsOver o s) (ring : s.ring ≡ 0)
       record {
         entries = (let e = was.entries in let n = ap (λ L. length L) more in let m = length-append (lines o.formula (journal_of o s)) (AddLine lits ∷ []) in omega arith);
         last = (let l = was.last in let n = ap (λ (k : Book). k.next) books in omega arith);
+        hinted = was.hinted;
         usable = was.usable;
         caused = caused_later s (after H S T la en) a put_output s.refused going put.room refl was.caused;
         whole = λ q. has_text_next o s.mine a put_output (added_line a lits hints) (was.whole q) (entry_of s number lits kind hints) (ap (λ (n : ℕ). Added n lits hints ∷ []) given) (record { room = put.room; state = refl });
@@ -255,9 +254,9 @@ module _ (o : Origin) (s : PortState) (h : StandsOver o s) (ring : s.ring ≡ 0)
   }
 
 -- A line at which the output failed, and which would be accepted
-pub stands_failed : (o : Origin) (s : PortState) (h : StandsOver o s) (x : NumberedLine) → Accepted o.formula (lines o.formula (journal_of o s) ++ line_of x ∷ []) → All (IsOn s.vars) (lits_of (line_of x))
-    → (a b : LineState) → s.output ≡ Some a → a.spent ≡ false → FailedLine a b x → StandsOver o (record s { refused = Some ProofFault; output = Some b })
-stands_failed o s h x accepted on a b out unspent failed =
+pub stands_failed : (o : Origin) (s : PortState) (h : StandsOver o s) (e : Entry) (x : NumberedLine) → numbered_after (book o.formula (journal_of o s)) e ≡ x ∷ [] → LogSound o.formula (journal_of o s ++ e ∷ [])
+    → (s.hinted ≡ true → IsHinted o.formula (journal_of o s) e) → All (IsOn s.vars) (lits_of (line_of x)) → (a b : LineState) → s.output ≡ Some a → a.spent ≡ false → FailedLine a b x → StandsOver o (record s { refused = Some ProofFault; output = Some b })
+stands_failed o s h e x one sound hinted on a b out unspent failed =
     let was = output_of o s a h out in
     let t : PortState = record s { refused = Some ProofFault; output = Some b } in
     let w : LineState = record a { spent = true; faults = b.faults; written = b.written } in
@@ -265,10 +264,11 @@ stands_failed o s h x accepted on a b out unspent failed =
     record {
       entries = was.entries;
       last = was.last;
+      hinted = was.hinted;
       usable = refl;
       caused = refl;
       whole = λ q. absurd (false≢true (sym q));
-      short = λ q. has_text_cut o s.mine a w x (was.whole unspent) accepted s.vars on
+      short = λ q. has_text_cut o s.mine a w x (was.whole unspent) e one sound (λ q. hinted (was.hinted ∙ ap has_hints (was.whole unspent).format ∙ q)) s.vars on
           (subst (λ v. FailedLine a v x) failed.state failed);
       target = was.target;
       flushed = was.flushed;
@@ -301,6 +301,7 @@ stands_with o s h a out S G n st k r en seen usable end caused =
     record {
       entries = was.entries;
       last = was.last;
+      hinted = was.hinted;
       usable = usable;
       caused = caused_same (record s { ended = en }) t a r refl caused;
       whole = was.whole;

@@ -17,6 +17,7 @@ use Rattle.sat_words.specs.declared.shared.Stop.{Stop}
 use Rattle.drat_text.specs.LineOut.{added_line, deleted_line}
 use Rattle.rup_model.specs.declared.journal.Kind.{Kind}
 use Rattle.rup_model.specs.declared.journal.Kind.TheVariants.{Learn}
+use Rattle.rup_model.specs.declared.journal.Entry.TheVariants.{Del}
 use Rattle.rup_model.specs.Rup.{rup}
 use Rattle.rup_model.specs.Journal.{book, is_told}
 use Rattle.rup_model.proofs.Additions.{told_more}
@@ -24,7 +25,7 @@ use Rattle.ring_port.specs.declared.draw.Tickets.{Tickets}
 use Rattle.ring_port.specs.declared.stops.PortStop.{PortStop}
 use Rattle.ring_port.specs.declared.stops.PortStop.TheVariants.{Ended, Broken, ProofFault, NoHole, Memory}
 use Rattle.ring_port.specs.PortState.{Holding, PortState, AreApart, IsKept, IsOn, held_at, known}
-use Rattle.ring_port.specs.Port.{is_usable, holding_of, last_after, ticket_after, AddedClause, WroteUnit, AreHints, EndsWith}
+use Rattle.ring_port.specs.Port.{is_usable, entry_of, holding_of, last_after, ticket_after, AddedClause, WroteUnit, AreHints, EndsWith}
 use Rattle.ring_port.specs.Log.{Origin, Keeps, StandsOver, KeepsLog, journal_of}
 use Rattle.ring_port.specs.OwnLog.{LogData, AddedEntry, DeletedEntry, NotPut, WasReduced, own_entry}
 use Rattle.ring_port.specs.PlainPort.{PlainData, state_of, IsPlain, told_with}
@@ -33,8 +34,9 @@ use Rattle.ring_port.specs.Deleting.{without_one, unless_at, deletions, DroppedO
 use Rattle.ring_port.proofs.Holdings.{All_In}
 use Rattle.ring_port.proofs.Dropping.{is_at, find_In, never_at, gone, without_in, All_without}
 use Rattle.ring_port.proofs.PlainLemmas.{pushed_data, dropped_data, free_of, waits_nowhere, found_pushed, same_lookup}
-use Rattle.ring_port.proofs.LogSteps.{one_All, or_none, output_of, held_next, told_alive_next, added_here, all_told_next, told_here, ended_next, ended_stays, number_is, stands_after, stands_failed, stands_with, numbers_next, accepted_next, caused_same}
-use Rattle.ring_port.proofs.Deletions.{accepted_deletion, stands_deleted, stands_dropped}
+use Rattle.ring_port.proofs.LogSteps.{one_All, or_none, output_of, held_next, told_alive_next, added_here, all_told_next, told_here, ended_next, ended_stays, number_is, stands_after, stands_failed, stands_with, numbers_next, sound_last, caused_same}
+use Rattle.ring_port.proofs.Deletions.{numbered_is, sound_without, stands_deleted, stands_dropped}
+use Rattle.ring_port.proofs.Hinted.{hints_alive}
 use Rattle.ring_port.proofs.Reductions.{stands_reduced}
 
 some_literal : (lits : List Literal) → 2 ≤ length lits → is_empty lits ≡ false
@@ -64,6 +66,7 @@ tickets_keep p ti o h =
       output = record {
         entries = was.entries;
         last = was.last;
+        hinted = was.hinted;
         usable = was.usable;
         caused = caused_same (state_of p) (state_of (record p { tickets = ti })) p.log.output p.log.refused refl was.caused;
         whole = was.whole;
@@ -132,21 +135,23 @@ empty_keeps p r g kind number hints usable follows fit added o h =
 
 -- no line
 pub refused_keeps : (p : PlainData) (r : ℕ) (g : LogData) (lits : List Literal) (hints : List ℕ) (stop : PortStop)
-    → is_usable p.log.refused ≡ true → All (IsOn p.vars) lits → rup (known (state_of p)) lits ≡ true → NotPut (record p.log { room = r }) g (added_line p.log.output lits hints) stop
+    → is_usable p.log.refused ≡ true → All (IsOn p.vars) lits → rup (known (state_of p)) lits ≡ true → AreHints (state_of p) lits hints → NotPut (record p.log { room = r }) g (added_line p.log.output lits hints) stop
     → KeepsLog (state_of p) (state_of (record p { log = g }))
-refused_keeps p r g lits hints Ended usable on follows why o h =
+refused_keeps p r g lits hints Ended usable on follows fit why o h =
     subst (λ k. StandsOver o (state_of (record p { log = k }))) (sym why.1)
     (stands_with o (state_of p) h p.log.output refl (take p.passed p.opening ++ p.written) p.given (length p.opening - p.passed) p.stop p.looks (Some Ended) p.log.ended
     h.seen (sym (ap not (unspent_of o p h usable))) refl why.0)
-refused_keeps p r g lits hints Broken usable on follows why o h = absurd why
-refused_keeps p r g lits hints ProofFault usable on follows why o h =
+refused_keeps p r g lits hints Broken usable on follows fit why o h = absurd why
+refused_keeps p r g lits hints ProofFault usable on follows fit why o h =
     subst (λ k. StandsOver o (state_of (record p { log = k }))) (sym why.state)
-    (stands_failed o (state_of p) h (added_line p.log.output lits hints) (accepted_next o (state_of p) h refl lits Learn (book o.formula (journal_of o (state_of p))).next hints follows why.going refl) on p.log.output g.output refl (unspent_of o p h usable) why.put)
-refused_keeps p r g lits hints (NoHole lack) usable on follows why o h =
+    (stands_failed o (state_of p) h (entry_of (state_of p) (p.log.output.last + 1) lits Learn hints) (added_line p.log.output lits hints) refl
+    (sound_last o (state_of p) h refl lits Learn (p.log.output.last + 1) hints follows why.going (sym (output_of o (state_of p) p.log.output h refl).last))
+    (hints_alive o (state_of p) h lits hints fit) on p.log.output g.output refl (unspent_of o p h usable) why.put)
+refused_keeps p r g lits hints (NoHole lack) usable on follows fit why o h =
     subst (λ k. StandsOver o (state_of (record p { log = k }))) (sym why.state)
     (stands_with o (state_of p) h p.log.output refl (take p.passed p.opening ++ p.written) p.given (length p.opening - p.passed) p.stop p.looks (Some (NoHole lack)) p.log.ended
     h.seen (sym (ap not (unspent_of o p h usable))) refl (why.full, why.needed, why.found))
-refused_keeps p r g lits hints Memory usable on follows why o h = subst (λ k. StandsOver o (state_of (record p { log = k }))) (sym why) h
+refused_keeps p r g lits hints Memory usable on follows fit why o h = subst (λ k. StandsOver o (state_of (record p { log = k }))) (sym why) h
 
 -- the note of a reduction
 pub reduce_keeps : (p : PlainData) (r : ℕ) (g : LogData) (result : Result (Unit {0}) PortStop) → is_usable p.log.refused ≡ true → WasReduced (record p.log { room = r }) g result
@@ -190,6 +195,7 @@ last_keeps p la o h =
       output = record {
         entries = was.entries;
         last = was.last;
+        hinted = was.hinted;
         usable = was.usable;
         caused = caused_same (state_of p) (state_of (record p { last = la })) p.log.output p.log.refused refl was.caused;
         whole = was.whole;
@@ -219,6 +225,7 @@ caught_keeps p k o h =
       output = record {
         entries = was.entries;
         last = was.last;
+        hinted = was.hinted;
         usable = was.usable;
         caused = caused_same (state_of p) (state_of (record p { caught_up = k })) p.log.output p.log.refused refl was.caused;
         whole = was.whole;
@@ -360,7 +367,9 @@ module _ (p : PlainData) (plain : IsPlain p) (x : Holding) (xs : List Holding) (
   deletion_refused Broken why o h = absurd why
   deletion_refused ProofFault why o h =
       subst (λ k. StandsOver o (state_of (record p { log = k }))) (sym why.state)
-      (stands_failed o (state_of p) h (deleted_line p.log.output x.number x.lits) (accepted_deletion o (state_of p) h refl x xs first kept_x.shape why.going) kept_x.on p.log.output g.output refl (unspent_of o p h usable) why.put)
+      (stands_failed o (state_of p) h (Del 0 x.number) (deleted_line p.log.output x.number x.lits)
+      (numbered_is o (state_of p) h refl x xs first kept_x.shape why.going p.log.output.last (let l = (output_of o (state_of p) p.log.output h refl).last in omega arith))
+      (sound_without o (state_of p) h refl x xs first kept_x.shape why.going) (λ q. tt) kept_x.on p.log.output g.output refl (unspent_of o p h usable) why.put)
   deletion_refused (NoHole lack) why o h =
       subst (λ k. StandsOver o (state_of (record p { log = k }))) (sym why.state)
       (stands_with o (state_of p) h p.log.output refl (take p.passed p.opening ++ p.written) p.given (length p.opening - p.passed) p.stop p.looks (Some (NoHole lack)) p.log.ended

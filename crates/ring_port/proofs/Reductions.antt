@@ -56,6 +56,7 @@ module _ (o : Origin) (s : PortState) (h : StandsOver o s) where
       record {
         entries = was.entries ∙ ap (λ L. length L) (sym lines_same);
         last = ap (λ (k : Book). k.next) book_same ∙ was.last;
+        hinted = was.hinted;
         usable = was.usable;
         caused = caused_same s after_reduce a s.refused refl was.caused;
         whole = λ q. has_text_still o s.mine a (Reduce s.ring) refl (was.whole unspent);

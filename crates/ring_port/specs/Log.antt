@@ -2,6 +2,7 @@
 use Rattle.std.specs.Prelude.{◌≡◌, ◌+◌, ◌⊎◌, true, false, not, List, [], ◌∷◌, ◌++◌, map, length, All, Contains, Option, Some, None, IsSomeAnd, ⊤}
 use Rattle.std.specs.List.{list_any}
 use Rattle.sat_words.specs.Clause.{is_empty}
+use Rattle.sat_words.specs.Formats.{has_hints}
 use Rattle.rup_model.specs.declared.journal.Entry.{Entry}
 use Rattle.rup_model.specs.Basics.{EachAfter}
 use Rattle.rup_model.specs.NumberedLines.{IsHinted}
@@ -39,10 +40,11 @@ IsCaused s out (Some ProofFault) = out.spent ≡ true
 IsCaused s out (Some (NoHole lack)) = (out.entries ≡ MAX_ENTRIES) × (lack.need ≡ MAX_ENTRIES + 1) × (lack.largest ≡ MAX_ENTRIES)
 IsCaused s out (Some Memory) = ⊥
 
--- what the output has of the journal's lines
+-- what the output has of the journal's lines; the port's additions have hints exactly if the output's format has
 pub record HasLines (o : Origin) (s : PortState) (out : LineState) : Type 0 where
   pub entries : out.entries ≡ length (lines o.formula (journal_of o s))
   pub last : (book o.formula (journal_of o s)).next ≡ out.last + 1
+  pub hinted : s.hinted ≡ has_hints out.format
   pub usable : is_usable s.refused ≡ not out.spent
   pub caused : IsCaused s out s.refused
   pub whole : out.spent ≡ false → HasText o s.mine out

@@ -2,6 +2,7 @@
 use Rattle.std.specs.Prelude.{◌≡◌, ℕ, suc, Bool, false, List, length, Option, Some, is_some}
 use Rattle.sat_words.specs.Literal.{Literal}
 use Rattle.sat_words.specs.declared.line.Line.{Line}
+use Rattle.sat_words.specs.Formats.{has_hints}
 use Rattle.clause_cell.specs.declared.holes.Hole.{Hole}
 use Rattle.rup_model.specs.declared.journal.Entry.{Entry}
 use Rattle.rup_model.specs.Journal.{book, ended, lines}
@@ -30,9 +31,10 @@ module _ {B : Type 0} (account : B → Account) (written : B → BookOrigin → 
     pub sink : written b w l F J
 
   -- it says whether the log is ended and whether a write has failed; unless one has, its holes are those that the journal
-  -- leaves
+  -- leaves; additions have hints exactly if its format has
   pub record StandsFor (b : B) (w : BookOrigin) (l : Layout) (o : CoreOpening) (J : List Entry) (fault : Bool) : Type 0 where
     pub log : HasLog b w l o.formula J
     pub ended : (account b).ended ≡ ended o.formula J
     pub holes : (account b).broken ≡ false → (account b).holes ≡ (room l o J).holes
     pub faulty : (account b).broken ≡ fault
+    pub hinted : o.hinted ≡ has_hints w.format

@@ -24,7 +24,7 @@ use Rattle.simp_base.specs.WorkState.{WorkState, IsWork, IsFixOn, HaveOwnNumbers
 use Rattle.sat_words.specs.Literal.{IsOn}
 use Rattle.simp_base.proofs.Lists.{All_In, In_All, one_All}
 use Rattle.simp_base.specs.Tables.{RemovedNumber}
-use Rattle.simp_base.specs.Calls.{AddedLine, IsListed, NotPut, NotAdded, Deleted, WasAdded, WasAddedLine}
+use Rattle.simp_base.specs.Calls.{AreHints, AddedLine, IsListed, NotPut, NotAdded, Deleted, WasAdded, WasAddedLine}
 use Rattle.simp_base.proofs.Removal.{own_less, others_less, removed_All, removed_each, one_clause}
 
 pub clause_of_on : (vars : ℕ) (lits : List Literal) → All (IsOn vars) lits → All (IsOn vars) (clause_of lits)
@@ -151,6 +151,13 @@ pub not_put_at : (old new : WorkState) (lits : List Literal) (stop : LineStop) �
 not_put_at old new lits ProofFault was = (was.0, was.2)
 not_put_at old new lits Full was = ([], was)
 not_put_at old new lits Memory was = ([], was)
+
+-- if the output failed at the line, its hints are those that are wanted
+pub hints_not_put : (old new : WorkState) (lits : List Literal) (stop : LineStop) (was : NotAdded old new lits stop) → stop ≡ ProofFault → AreHints old.output old.clauses lits (not_put_at old new lits stop was).0
+unfolding not_put_at
+hints_not_put old new lits ProofFault was is = was.1
+hints_not_put old new lits Full was is = absurd (let no : ⊥ = cc in no)
+hints_not_put old new lits Memory was is = absurd (let no : ⊥ = cc in no)
 
 pub not_put_of : (w : WorkState) (b : LineState) (x : NumberedLine) (stop : LineStop) → WasPut {T = Unit {0}} w.output b x (Err stop) → NotPut w (record w { output = b }) x stop
 not_put_of w b x ProofFault h = record { put = h; state = refl }

@@ -26,7 +26,7 @@ use Rattle.rup_model.specs.Journal.{Book, spelled, formula_book, book_after, boo
 use Rattle.rup_model.specs.Opening.{is_rulers}
 use Rattle.rup_model.proofs.Lists.{In, In_any, any_In, In_append, In_append_left, In_append_right, In_map, map_In, In_has, has_In, Contains_In, In_Contains}
 use Rattle.sat_words.proofs.Insertion.{same_set-clause_of, InOrder-clause_of, has-clause_of}
-use Rattle.simp_base.proofs.Keeping.{only_told, not_put_at}
+use Rattle.simp_base.proofs.Keeping.{only_told, not_put_at, hints_not_put}
 use Rattle.rup_model.proofs.Sums.{put_here, put_else, at_put}
 use Rattle.rup_model.proofs.Sequences.{each_last}
 use Rattle.rup_model.proofs.Covers.{same_self, same_back, same_chain, same_has}
@@ -157,8 +157,8 @@ module _ (o : Origin) (mine : List Entry) (w : WorkState) (h : Stands o mine w) 
         })
 
     -- the output failed at the line
-    pub stands_failed : (b : LineState) → w.output.spent ≡ false → All (IsOn w.vars) (lits_of (line_of x)) → FailedLine w.output b x → Stands o mine (record w { output = b })
-    stands_failed b unspent on failed =
+    pub stands_failed : (has_hints w.output.format ≡ true → IsHinted F J e) → (b : LineState) → w.output.spent ≡ false → All (IsOn w.vars) (lits_of (line_of x)) → FailedLine w.output b x → Stands o mine (record w { output = b })
+    stands_failed fits b unspent on failed =
         let was = h.lines in
         record {
           sound = h.sound;
@@ -175,7 +175,8 @@ module _ (o : Origin) (mine : List Entry) (w : WorkState) (h : Stands o mine w) 
             entries = was.entries;
             last = was.last;
             whole = λ q. absurd (false≢true (sym q));
-            short = λ q. has_text_cut o mine w.output (record w.output { spent = true; faults = b.faults; written = b.written }) x (was.whole unspent) accepted_next w.vars on
+            short = λ q. has_text_cut o mine w.output (record w.output { spent = true; faults = b.faults; written = b.written }) x (was.whole unspent) e one
+                (subst (LogSound F) grown_is sound_next) (λ k. fits (ap has_hints (was.whole unspent).format ∙ k)) w.vars on
                 (subst (λ v. FailedLine w.output v x) failed.state failed);
             target = was.target;
             flushed = was.flushed;
@@ -375,11 +376,11 @@ nothing_more o mine w h = subst (λ es. Stands o es w) (sym (append-nil mine)) h
 
 not_put : (o : Origin) (mine : List Entry) (old new : WorkState) (h : Stands o mine old) (e : Entry) (x : NumberedLine) → numbered_after (book o.formula (journal_of o mine)) e ≡ x ∷ []
     → is_valid (alive o.formula (lines o.formula (journal_of o mine))) (line_of x) ≡ true → IsFit (book o.formula (journal_of o mine)) e → old.ended ≡ false
-    → old.output.spent ≡ false → All (IsOn old.vars) (lits_of (line_of x)) → (stop : LineStop) → NotPut old new x stop → Stands o (mine ++ []) new
-not_put o mine old new h e x one valid fit going unspent on ProofFault f =
-    nothing_more o mine new (subst (Stands o mine) (sym f.state) (stands_failed o mine old h e x one valid fit going new.output unspent on f.put))
-not_put o mine old new h e x one valid fit going unspent on Full f = nothing_more o mine new (subst (Stands o mine) (sym f.1) h)
-not_put o mine old new h e x one valid fit going unspent on Memory f = nothing_more o mine new (subst (Stands o mine) (sym f) h)
+    → old.output.spent ≡ false → All (IsOn old.vars) (lits_of (line_of x)) → (stop : LineStop) → (stop ≡ ProofFault → has_hints old.output.format ≡ true → IsHinted o.formula (journal_of o mine) e) → NotPut old new x stop → Stands o (mine ++ []) new
+not_put o mine old new h e x one valid fit going unspent on ProofFault hinted f =
+    nothing_more o mine new (subst (Stands o mine) (sym f.state) (stands_failed o mine old h e x one valid fit going (hinted refl) new.output unspent on f.put))
+not_put o mine old new h e x one valid fit going unspent on Full hinted f = nothing_more o mine new (subst (Stands o mine) (sym f.1) h)
+not_put o mine old new h e x one valid fit going unspent on Memory hinted f = nothing_more o mine new (subst (Stands o mine) (sym f) h)
 
 -- whatever a work stands over, it still does once these entries follow
 abbrev Follows : List Entry → WorkState → WorkState → Type 0
@@ -405,7 +406,7 @@ not_added old new lits stop unspent going valid on was =
       vars = not_put_vars old new (added_line old.output lits p.0) stop p.1;
       format = not_put_format old new (added_line old.output lits p.0) stop p.1;
       stands = λ o mine h. not_put o mine old new h (ruler_adds (old.output.last + 1) lits p.0) (added_line old.output lits p.0) refl (valid o mine h)
-          (record { numbered = next_number o mine old h; names = tt }) going unspent on stop p.1;
+          (record { numbered = next_number o mine old h; names = tt }) going unspent on stop (λ is. hints_fit o mine old h lits (old.output.last + 1) p.0 (valid o mine h) going (next_number o mine old h) (hints_not_put old new lits stop was is)) p.1;
     }
 
 pub added_keeps : (old new : WorkState) (lits : List Literal) (result : Result ℕ LineStop) → old.output.spent ≡ false → old.ended ≡ false → IsValidOver old lits → All (IsOn old.vars) lits
@@ -437,7 +438,7 @@ deleted_stands old new number c (Err stop) kept unspent going alive_c two was o 
     let two_d : two_or_more was.clause ≡ true = subst (λ d. two_or_more d ≡ true) same_c two in
     not_put o mine old new h (ruler_deletes number) (deleted_line old.output number was.clause)
     (one_del o mine old h number was.clause was.alive two_d going) (valid_del o mine old h number was.clause was.alive two_d going) (fit_del o mine old h number was.clause was.alive two_d going)
-    going unspent (on_clause old kept number was.clause was.alive) stop was.left
+    going unspent (on_clause old kept number was.clause was.alive) stop (λ is q. tt) was.left
 
 pub deleted_keeps : (old new : WorkState) (number : ℕ) (c : List Literal) (result : Result (Unit {0}) LineStop) → IsWork old → old.output.spent ≡ false → old.ended ≡ false → Contains old.clauses (number, c) → two_or_more c ≡ true
     → WasDeleted old new number result → Continues (on_ok result (ruler_deletes number ∷ [])) old new

@@ -58,7 +58,7 @@ module _ (w : WorkState) (u : ℕ) (le : w.vars ≤ u) where
       entries = h.lines.entries;
       last = h.lines.last;
       whole = h.lines.whole;
-      short = λ q. (let t = h.lines.short q in record { line = t.line; accepted = t.accepted; on = all_on_wider w.vars u le (lits_of (line_of t.line)) t.on; rose = t.rose; front = t.front });
+      short = λ q. (let t = h.lines.short q in record { next = t.next; line = t.line; one = t.one; sound = t.sound; hinted = t.hinted; on = all_on_wider w.vars u le (lits_of (line_of t.line)) t.on; format = t.format; rose = t.rose; front = t.front });
       target = h.lines.target;
       flushed = h.lines.flushed;
     };

@@ -11,9 +11,9 @@ use Rattle.portfolio_run.specs.Journaled.{IsCutShort}
 use Rattle.top_call.specs.Run.{Writer}
 
 -- A writer that began with no fault had failed `searched` times when the search was over, and `poured` times before its last call.
--- That was a flush, which made sure of all that was written, or failed. The writer holds the bytes of the journal's lines in this
--- format. If it failed before the flush, it holds the bytes of the first of them and a front of one line's more; if it had not failed
--- in the search, a front of the bytes.
+-- That was a flush, which made sure of all that was written, or failed. If its bytes are known, they are those of the journal's lines in
+-- this format, if it had not failed before the flush. If it had, they are a front of those, or of those and one line more that may come
+-- next; if it had not failed in the search, a front of those.
 pub record HoldsLog (format : ProofFormat) (clauses : List (List Literal)) (journal : List Entry) (searched : ℕ) (writer : Writer) : Type 0 where
   pub poured : ℕ
   pub grown : (searched ≤ poured) × (poured ≤ writer.faults)

@@ -1,4 +1,4 @@
-use Rattle.std.proofs.Common.{◌∙◌, ◌*◌, ℕ, List, length, sym, ap, subst, arith}
+use Rattle.std.proofs.Common.{◌∙◌, ◌*◌, ℕ, List, length, refl, sym, ap, subst, arith}
 use Rattle.sat_words.specs.Formats.{has_hints}
 use Rattle.rup_model.specs.Journal.{book}
 use Rattle.share_core.specs.State.{opened}
@@ -65,6 +65,7 @@ open_table-requires-clause-opens g c =
         log = log_kept g.B.Ledger.account g.B.Ledger.stands c.args.book c.with_holes-book.result c.in-Ok.laid.1 w l F J h c.with_holes-book.ensures.account c.with_holes-book.ensures.sink;
         ended = ap (λ a. a.ended) c.with_holes-book.ensures.account ∙ sym b.going;
         faulty = ap (λ a. a.broken) c.with_holes-book.ensures.account ∙ c.requires.1.1.1;
+        hinted = refl;
         holes = λ _. ap (λ a. a.holes) c.with_holes-book.ensures.account ∙ c.in-Ok.ensures.holes ∙ ap (λ r. r.holes) (sym (begun_room F l hinted J ss us b));
       };
     } in

@@ -54,13 +54,14 @@ returns-in_err-add-clause-log g c =
     let i = c.self.inside in
     let p : PlainData = record { vars = i.vars; start = i.store.start; held = i.store.held; waiting = i.store.waiting; opening = i.opening.items; passed = i.passed; given = i.given.items; given_room = vec_capacity i.given - vec_len i.given; written = i.written.items; hinted = i.hinted; told = i.told.items; log = i.log; last = i.last; tickets = i.tickets; stop = i.stop; looks = i.looks; caught_up = i.caught_up } in
     let usable : is_usable i.log.refused ≡ true = subst (λ s. is_usable s.refused ≡ true) (sym (state_is c.self.view_is)) c.requires.usable in
+    let fit : AreHints (state_of p) [] c.args.hints.now = subst (λ s. AreHints s [] c.args.hints.now) (sym (state_is c.self.view_is)) c.requires.hints in
     let follows : rup (known (state_of p)) [] ≡ true = subst (λ s. rup (known s) [] ≡ true) (sym (state_is c.self.view_is)) c.requires.rup in
     let none : All (IsOn i.vars) [] = λ k d lt. absurd (omega arith) in
     let why : NotPut (record i.log { room = c.make_room.new.self.room }) c.add.new.self (added_line i.log.output [] c.args.hints.now) c.in_err-add.field-0.0 =
     subst (λ k. NotPut k c.add.new.self (added_line k.output [] c.args.hints.now) c.in_err-add.field-0.0) c.make_room.ensures.same
     (subst (λ (z : List Literal × List ℕ). NotPut c.make_room.new.self c.add.new.self (added_line c.make_room.new.self.output z.0 z.1) c.in_err-add.field-0.0) (λ j. ((c.from_vec-none.ensures ∙ c.new.ensures.items) j, c.in-Ok.ensures j)) c.in_err-add.ensures) in
     subst (λ s. KeepsLog s (state_of (record p { log = c.add.new.self }))) (state_is c.self.view_is)
-    (refused_keeps p c.make_room.new.self.room c.add.new.self [] c.args.hints.now c.in_err-add.field-0.0 usable none follows why)
+    (refused_keeps p c.make_room.new.self.room c.add.new.self [] c.args.hints.now c.in_err-add.field-0.0 usable none follows fit why)
 
 pub returns-in_err-make_room-clause-port : goal.returns-in_err-make_room-clause-port
 returns-in_err-make_room-clause-port g c =

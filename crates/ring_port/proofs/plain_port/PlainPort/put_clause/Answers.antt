@@ -113,13 +113,14 @@ returns-in_err-number-clause-log g c =
     let p : PlainData = record { vars = i.vars; start = i.store.start; held = i.store.held; waiting = i.store.waiting; opening = i.opening.items; passed = i.passed; given = i.given.items; given_room = vec_capacity i.given - vec_len i.given; written = i.written.items; hinted = i.hinted; told = i.told.items; log = i.log; last = i.last; tickets = i.tickets; stop = i.stop; looks = i.looks; caught_up = i.caught_up } in
     let usable : is_usable i.log.refused ≡ true = subst (λ s. is_usable s.refused ≡ true) (sym (state_is c.self.view_is)) c.requires.usable in
     let clause = subst (λ s. IsClause s.vars c.args.lits.now) (sym (state_is c.self.view_is)) c.requires.clause in
+    let fit : AreHints (state_of p) c.args.lits.now c.args.hints.now = subst (λ s. AreHints s c.args.lits.now c.args.hints.now) (sym (state_is c.self.view_is)) c.requires.hints in
     let follows : rup (known (state_of p)) c.args.lits.now ≡ true = subst (λ s. rup (known s) c.args.lits.now ≡ true) (sym (state_is c.self.view_is)) c.requires.rup in
     let why : NotPut (record i.log { room = c.make_room-2.new.self.room }) c.add.new.self (added_line i.log.output c.args.lits.now c.args.hints.now) c.in_err-number.field-0.0 =
     subst (λ k. NotPut k c.add.new.self (added_line k.output c.args.lits.now c.args.hints.now) c.in_err-number.field-0.0) c.make_room-2.ensures.same
     (subst (λ (z : List Literal × List ℕ). NotPut c.make_room-2.new.self c.add.new.self (added_line c.make_room-2.new.self.output z.0 z.1) c.in_err-number.field-0.0) (λ j. (c.in-Ok.ensures j, c.in-Ok-from_slice.ensures j)) c.in_err-number.ensures) in
     subst (λ s. KeepsLog s (state_of (record p { start = c.make_room.new.self.start; held = c.make_room.new.self.held; waiting = c.make_room.new.self.waiting; log = c.add.new.self }))) (state_is c.self.view_is)
     (subst (λ (w : List Holding × List Holding × List Holding). KeepsLog (state_of p) (state_of (record p { start = w.0; held = w.1; waiting = w.2; log = c.add.new.self }))) (λ j. (sym c.make_room.ensures.start j, sym c.make_room.ensures.held j, sym c.make_room.ensures.waiting j))
-    (refused_keeps p c.make_room-2.new.self.room c.add.new.self c.args.lits.now c.args.hints.now c.in_err-number.field-0.0 usable clause.on follows why))
+    (refused_keeps p c.make_room-2.new.self.room c.add.new.self c.args.lits.now c.args.hints.now c.in_err-number.field-0.0 usable clause.on follows fit why))
 
 pub returns-in_err-make_room-clause-port : goal.returns-in_err-make_room-clause-port
 returns-in_err-make_room-clause-port g c =
